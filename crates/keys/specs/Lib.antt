@@ -1,0 +1,5 @@
+pub mod Conditions
+pub mod Orders
+pub mod Pages
+pub mod Refusals
+pub mod Samples

@@ -1,0 +1,4 @@
+pub mod Dimensions
+pub mod Words
+pub mod Boundaries
+pub mod Indexes
