@@ -20,10 +20,6 @@ module _ {K : Type 0} (O : Order K) (L : Ordered O) where
   pub same-place : (p q : O .Place) → isSame (O .way p q) ≡ true → p ≡ q
   same-place p q h = L .only p q (grind arith)
 
-  -- a place that is not before another: the other is before it or the same
-  pub not-before : (p q : O .Place) → (O .way p q ≡ before → ⊥) → (O .way q p ≡ before) ⊎ (p ≡ q)
-  not-before p q n = let s = L .only p q in let a = L .flop p q in grind arith
-
 pub numbers-ordered : Ordered numbers
 numbers-ordered = record {
   self = λ p. grind (arith, tells);

@@ -1,7 +1,7 @@
 -- What a key that takes the free slot f does to the ranks, slot by slot: the same for a new key and for one that is replaced.
 --     Took     whatever the slots hold
 --     Effect   where ranks order keys; ss are the sides seen from the key
-use mathlib.Core.Path.{_≡_, refl, sym, ap, subst, _∙_}
+use mathlib.Core.Path.{_≡_, sym, ap, subst, _∙_}
 use mathlib.Core.Logic.{_⊎_, inl, inr, ⊎-elim, _≢_}
 use mathlib.Core.List.{List}
 use Prim.Native.Nat.{ℕ, _+_, _≤_, _<_}
@@ -9,7 +9,7 @@ use native.Mathlib.Omega.{arith}
 use lib.ListN.{length, getD, set}
 use Rattle.std.proofs.shelf.Lists.{length-set, getD-set-same, getD-set-other}
 use Rattle.std.proofs.shelf.Tests.{cases-eq, cases-lt, cases-order}
-use Rattle.ranks.specs.Words.{lift, lifted}
+use Rattle.ranks.specs.Words.{lifted}
 use Rattle.ranks.specs.Indexes.{Apart}
 use Rattle.ranks.proofs.Lifts.{lift-up, lift-flat, length-lifted, getD-lifted, lifted-same}
 use Rattle.leaf.specs.Seeks.{Level, Inside, taken, Parted, Sought}

@@ -1,23 +1,22 @@
 -- A key filed in an array: ranks still order keys, and what is answered and left is what the rules say.
 use mathlib.Core.Path.{_≡_, refl, sym, ap, subst, _∙_}
-use mathlib.Core.Bool.{Bool, true, false, cond, not, _&&_}
+use mathlib.Core.Bool.{Bool, true, false}
 use mathlib.Core.Logic.{_⊎_, inl, inr, ⊎-elim, _≢_}
 use mathlib.Core.List.{List, [], _∷_, map}
-use Prim.Native.Nat.{ℕ, zero, suc, _+_, _-_, _*_, _≤_, _<_}
+use Prim.Native.Nat.{ℕ, zero, suc, _+_, _-_, _≤_, _<_}
 use native.Mathlib.Omega.{arith}
 use lib.Count.{ones}
-use lib.Dec.{eqb, ltb}
 use lib.ListN.{length, getD, set}
 use Rattle.std.specs.Finite.{nth}
 use Rattle.std.specs.Options.{isSome}
 use Rattle.std.specs.declared.option.Option.the-variants.{Some}
 use Rattle.std.proofs.shelf.Tests.{cases-eq}
 use Rattle.std.proofs.shelf.Ways.{tells}
-use Rattle.keys.specs.Orders.{Order, Ordered, before, stands}
+use Rattle.keys.specs.Orders.{Order, Ordered, stands}
 use Rattle.ranks.specs.Dimensions.{slotPos}
 use Rattle.ranks.specs.Words.{ranksOf, flagsOf, isRetired, Reads}
 use Rattle.ranks.proofs.Words.{length-digits}
-use Rattle.ranks.proofs.Uses.{ones-more, slot-lt}
+use Rattle.ranks.proofs.Uses.{slot-lt}
 use Rattle.leaf.specs.Records.{Whole}
 use Rattle.leaf.specs.Slots.{sideOf, sides, Sorted}
 use Rattle.leaf.specs.Rules.{State, stateOf, holder, used, given, Spare}
@@ -113,9 +112,6 @@ module _ (s : State) (ss : List ℕ) (upsert : Bool) where
 
   pub answers-full : (upsert ≡ true) ⊎ (isSome (holder (s .ranks) ss) ≡ false) → 15 ≤ s .uses → insert.Full ≡ insertion s ss upsert
   answers-full n u = grind (arith, tells)
-
-  pub answers-flags : 0 < s .flags → insert.Full ≡ insertion s ss upsert
-  answers-flags f = grind (arith, tells)
 
   pub answers-success : s .flags ≡ 0 → (upsert ≡ true) ⊎ (isSome (holder (s .ranks) ss) ≡ false) → s .uses < 15 → insert.Success ≡ insertion s ss upsert
   answers-success f n u = grind (arith, tells)

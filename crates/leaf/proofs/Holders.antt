@@ -1,19 +1,18 @@
 -- What the pass finds is what the rules speak of: the live slot at a place, and the greatest live rank before it.
-use mathlib.Core.Path.{_≡_, refl, sym, ap, ap₂, subst, _∙_}
-use mathlib.Core.Bool.{Bool, true, false, cond, _&&_}
+use mathlib.Core.Path.{_≡_, refl, sym, ap, ap₂, _∙_}
+use mathlib.Core.Bool.{cond, _&&_}
 use mathlib.Core.Logic.{_⊎_, inl, inr, ⊎-elim}
 use mathlib.Core.List.{List, [], _∷_}
-use Prim.Native.Nat.{ℕ, zero, suc, _+_, _≤_, _<_, max}
+use Prim.Native.Nat.{ℕ, zero, suc, _≤_, _<_}
 use native.Mathlib.Omega.{arith}
 use lib.Dec.{eqb, ltb}
 use lib.ListN.{length, getD}
-use Rattle.std.specs.Options.{isSome}
 use Rattle.std.specs.declared.option.Option.{Option}
 use Rattle.std.specs.declared.option.Option.the-variants.{Some, None}
 use Rattle.std.proofs.shelf.Lists.{getD-past}
 use Rattle.std.proofs.shelf.Tests.{cases-eq, cases-lt, cases-order}
 use Rattle.std.proofs.shelf.Ways.{tells}
-use Rattle.leaf.specs.Rules.{further, holder, floor, takenFrom, Least, LeastFrom}
+use Rattle.leaf.specs.Rules.{further, holder, floor, takenFrom}
 use Rattle.leaf.specs.Seeks.{Level, Inside, taken, Parted, Sought}
 use Rattle.leaf.specs.declared.seek.Spot.{Spot}
 use Rattle.leaf.specs.declared.seek.Spot.the-variants.{Same, Between}

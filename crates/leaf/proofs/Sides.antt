@@ -1,6 +1,6 @@
 -- The slots seen from a key, as numbers: what `compare` says of a slot, and what it comes to that ranks order keys.
 --     Arranged rs ss   ranks order keys, seen from one key: live ranks differ, and a live slot of a greater rank is after whatever one of a lower rank is not before
-use mathlib.Core.Path.{_≡_, refl, sym, ap, subst, _∙_}
+use mathlib.Core.Path.{_≡_, refl, sym, ap, _∙_}
 use mathlib.Core.List.{List, [], _∷_}
 use mathlib.Core.Logic.{inl, inr}
 use Prim.Native.Nat.{ℕ, zero, suc, _≤_, _<_}

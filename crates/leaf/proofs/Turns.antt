@@ -7,11 +7,11 @@ use mathlib.Core.List.{List}
 use Prim.Native.Nat.{ℕ, _+_, _-_, _≤_, _<_}
 use native.Mathlib.Omega.{arith}
 use borrow.Author.Count.{below-more}
-use lib.ListN.{length, getD, drop}
+use lib.ListN.{getD, drop}
 use Rattle.std.proofs.shelf.Lists.{getD-drop}
 use Rattle.std.proofs.shelf.Tests.{cases-eq, cases-lt}
 use Rattle.ranks.specs.Words.{encode}
-use Rattle.leaf.specs.Seeks.{Level, Inside, Parted, Sought}
+use Rattle.leaf.specs.Seeks.{Level, Parted}
 use Rattle.leaf.proofs.Sides.{Arranged}
 use Rattle.ranks.proofs.Words.{encode-zero}
 

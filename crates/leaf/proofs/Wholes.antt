@@ -9,7 +9,7 @@ use native.Mathlib.Bridge.{le-prop}
 use base.Stored.{coded-set, codedℕ, codedBool}
 use lib.Count.{ones}
 use lib.Dec.{eqb}
-use lib.ListN.{length, getD, set, replicate}
+use lib.ListN.{getD, set, replicate}
 use lib.Pow.{pow-mono}
 use Rattle.std.proofs.shelf.Bits.{pow-add, pow-pos}
 use Rattle.std.proofs.shelf.Tests.{cases-eq, and-parts, and-from}

@@ -8,10 +8,10 @@
 --     used s           one use more; given s, one less; Spare s: the last use is just taken, so that no rank counts it
 --     frozen s         the frozen bit set; thawed s, cleared
 --     struck p s       slot p is not live any more; where that leaves no live slot and no flag, the array is retired
-use mathlib.Core.Bool.{Bool, true, false, cond, _&&_}
+use mathlib.Core.Bool.{cond, _&&_}
 use mathlib.Core.List.{List, [], _∷_}
 use mathlib.Core.Path.{_≡_}
-use Prim.Native.Nat.{ℕ, zero, suc, _+_, _-_, _%_, _≤_, _<_, max}
+use Prim.Native.Nat.{ℕ, suc, _+_, _-_, _%_, _≤_, _<_, max}
 use lib.Count.{ones}
 use lib.Dec.{eqb, ltb}
 use lib.ListN.{getD, set}

@@ -1,21 +1,18 @@
 -- A cursor over the live slots: what it keeps, and that its slots come in order of rank.
 use mathlib.Core.Path.{_≡_, refl, sym, ap, subst, _∙_}
 use mathlib.Core.Bool.{cond}
-use mathlib.Core.Logic.{∥∥₁-elim, ⊎-elim, inl, inr}
+use mathlib.Core.Logic.{∥∥₁-elim, ⊎-elim}
 use mathlib.Core.List.{List, [], _∷_, _++_, reverse, append-nil}
 use Prim.Native.Nat.{ℕ, zero, suc, _+_, _-_, _≤_, _<_}
 use native.Mathlib.Omega.{arith}
 use native.Mathlib.Bridge.{le-prop}
-use native.Mathlib.Numerals.{add-one}
 use base.Stored.{coded-set, codedℕ}
 use lib.Dec.{eqb}
 use lib.ListN.{length, getD, set, drop}
 use Rattle.std.proofs.shelf.Lists.{length-set, getD-set-same, getD-set-other, getD-past, reverse-append}
 use Rattle.std.proofs.shelf.Tests.{cases-eq, cases-lt, cond-true, cond-false, eq-eqb, ne-eqb}
-use Rattle.std.specs.declared.option.Option.{Option}
 use Rattle.std.specs.declared.option.Option.the-variants.{Some, None}
-use Rattle.std.proofs.shelf.Ways.{tells}
-use Rattle.ranks.specs.Indexes.{noSlot, At, Indexed, Cursor, kept, upFrom, downFrom, ahead, behind, given, first, rest, latest, Gives, Rising, InOrder, Apart}
+use Rattle.ranks.specs.Indexes.{noSlot, Indexed, Cursor, kept, upFrom, downFrom, ahead, behind, given, first, rest, Gives, Rising, InOrder, Apart}
 
 pub cursor-out : {ix : List ℕ} → ∥ Cursor ix ∥₁ → Cursor ix
 cursor-out t = record {

@@ -5,7 +5,7 @@ use mathlib.Core.List.{List}
 use Prim.Native.Nat.{ℕ, _+_, _-_, _≤_, _<_}
 use native.Mathlib.Omega.{arith}
 use borrow.Author.Count.{below-more}
-use lib.ListN.{length, getD, set, drop, replicate}
+use lib.ListN.{getD, set, drop, replicate}
 use Rattle.std.proofs.shelf.Lists.{length-set, getD-drop, getD-set-same, getD-set-other, getD-replicate}
 use Rattle.std.proofs.shelf.Tests.{cases-eq, cases-lt}
 use Rattle.ranks.specs.Words.{encode}

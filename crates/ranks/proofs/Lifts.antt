@@ -1,16 +1,14 @@
 -- A pass that raises the ranks above one.
-use mathlib.Core.Path.{_≡_, refl, sym, ap, ap₂, subst, _∙_}
+use mathlib.Core.Path.{_≡_, refl, sym, ap, ap₂, _∙_}
 use mathlib.Core.List.{List, [], _∷_}
-use mathlib.Core.Bool.{cond}
-use Prim.Native.Nat.{ℕ, zero, suc, _+_, _-_, _*_, _/_, _%_, _^_, _≤_, _<_}
+use Prim.Native.Nat.{ℕ, zero, suc, _+_, _-_, _*_, _/_, _^_, _≤_, _<_}
 use native.Mathlib.Omega.{arith}
 use native.Mathlib.Nat.{mul-le-mul-left}
 use lib.ListN.{length, getD, take, drop}
-use lib.Dec.{ltb}
-use Rattle.std.proofs.shelf.Lists.{length-map, getD-map}
+use Rattle.std.proofs.shelf.Lists.{length-map}
 use Rattle.std.proofs.shelf.Ways.{tells}
 use Rattle.ranks.specs.Words.{encode, ranksOf, flagsOf, Reads, lift, lifted}
-use Rattle.ranks.proofs.Words.{Next, decode, word-split, encode-split, encode-lt, encode-digits, mixed-more, length-digits, digits-lt, next-of, word-fits}
+use Rattle.ranks.proofs.Words.{Next, decode, encode-split, encode-lt, mixed-more, length-digits}
 
 pub lift-up : (low r : ℕ) → low < r → lift low r ≡ r + 1
 lift-up low r h = grind (arith, tells)

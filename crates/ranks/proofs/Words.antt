@@ -9,7 +9,7 @@ use native.Mathlib.Nat.{mul-comm, mul-assoc, mul-add, mul-left-comm}
 use lib.ListN.{length, getD, set, take, drop}
 use lib.Dec.{eqb}
 use Rattle.std.proofs.shelf.Ways.{tells}
-use Rattle.std.proofs.shelf.Bits.{pow-add, pow-pos, shr-shr, shr-split, and-mask}
+use Rattle.std.proofs.shelf.Bits.{pow-add, shr-shr, shr-split}
 use Rattle.std.proofs.shelf.Lists.{drop-more, drop-all, length-set}
 use Rattle.std.proofs.shelf.Tests.{cases-lt}
 use Rattle.ranks.specs.Words.{encode, digits, ranksOf, flagsOf, wordOf, Reads, isEmpty}

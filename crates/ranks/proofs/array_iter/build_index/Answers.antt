@@ -1,6 +1,5 @@
-use mathlib.Core.Path.{sym, subst, ap, _∙_}
+use mathlib.Core.Path.{sym, subst, _∙_}
 use native.Mathlib.Omega.{arith}
-use lib.ListN.{set}
 use Rattle.ranks.specs.Words.{ranksOf}
 use Rattle.ranks.specs.Indexes.{Indexed}
 use Rattle.ranks.proofs.Words.{rests-at-start, next-of}

@@ -1,7 +1,4 @@
-use mathlib.Core.Path.{_≡_, sym, ap, _∙_}
 use native.Mathlib.Omega.{arith}
-use Prim.Native.Nat.{_+_, _*_, _^_}
-use Rattle.ranks.specs.Words.{ranksOf}
 use Rattle.ranks.proofs.Words.{rests-at-start, next-of}
 use Rattle.ranks.proofs.Lifts.{lift-up, lift-flat, lifting-more, lifting-fits, lifting-all}
 use Rattle.ranks.proofs.dimension.raise_above.Needs as need

@@ -1,7 +1,6 @@
-use mathlib.Core.Path.{sym, _≡_, _∙_}
-use Prim.Native.Nat.{_/_, _%_, _^_, _*_}
+use mathlib.Core.Path.{sym, _∙_}
+use Prim.Native.Nat.{_/_, _^_, _*_}
 use native.Mathlib.Omega.{arith}
-use lib.Bits.{bitAnd}
 use Rattle.std.proofs.shelf.Bits.{and-mask}
 use Rattle.ranks.proofs.Words.{getD-digits}
 use Rattle.ranks.proofs.dimension.rank_at.Needs as need

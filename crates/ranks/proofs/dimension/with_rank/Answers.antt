@@ -1,8 +1,6 @@
-use mathlib.Core.Path.{ap, _≡_, _∙_}
-use Prim.Native.Nat.{ℕ, _+_, _-_, _*_, _^_}
+use mathlib.Core.Path.{ap, _∙_}
+use Prim.Native.Nat.{_+_, _-_, _*_, _^_}
 use native.Mathlib.Omega.{arith}
-use lib.ListN.{getD}
-use Rattle.ranks.specs.Words.{ranksOf}
 use Rattle.ranks.proofs.Words.{put, put-room, put-fits}
 use Rattle.ranks.proofs.dimension.with_rank.Needs as need
 

@@ -2,14 +2,11 @@ use mathlib.Core.Path.{_≡_, refl, sym, ap, subst, _∙_}
 use mathlib.Core.Bool.{true, false}
 use mathlib.Core.Logic.{_⊎_, inl, inr}
 use native.Mathlib.Omega.{arith}
-use Prim.Native.Nat.{_<_}
-use lib.Count.{ones}
 use lib.ListN.{getD, set}
 use Rattle.ranks.specs.Dimensions.{slotPos}
-use Rattle.ranks.specs.Words.{ranksOf, flagsOf}
 use Rattle.leaf.specs.Rules.{stateOf}
 use Rattle.leaf.specs.Slots.{sides, Sorted}
-use Rattle.leaf.specs.Seeks.{there, Inside, taken, Sought}
+use Rattle.leaf.specs.Seeks.{there, Inside, taken}
 use Rattle.leaf.specs.declared.data_block.Slot.{Slot}
 use Rattle.leaf.proofs.Wholes.{whole-out}
 use Rattle.leaf.proofs.Finds.{found-there}

@@ -1,4 +1,4 @@
-use mathlib.Core.Path.{_≡_, refl, subst, ap, _∙_}
+use mathlib.Core.Path.{refl, subst, ap, _∙_}
 use native.Mathlib.Omega.{arith}
 use lib.Count.{ones}
 use Rattle.ranks.specs.Dimensions.{slotPos}

@@ -1,4 +1,3 @@
-use native.Mathlib.Omega.{arith}
 use Rattle.leaf.proofs.Finds.{least-same, least-between, all-before}
 use Rattle.leaf.proofs.array.Array.min_greater_equal.Needs as need
 

@@ -1,6 +1,5 @@
 use mathlib.Core.Path.{ap}
 use native.Mathlib.Omega.{arith}
-use Prim.Native.Nat.{_*_, _+_}
 use Rattle.ranks.proofs.Uses.{ones-more}
 use Rattle.leaf.proofs.Wholes.{counted, whole-out, whole-more, more-fits}
 use Rattle.leaf.proofs.array.Array.take_use.Needs as need

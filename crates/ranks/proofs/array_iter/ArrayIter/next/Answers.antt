@@ -1,6 +1,5 @@
 use mathlib.Core.Path.{sym, subst, _∙_}
 use native.Mathlib.Omega.{arith}
-use Prim.Native.Nat.{_≤_}
 use lib.ListN.{getD, set}
 use Rattle.std.specs.declared.option.Option.the-variants.{Some}
 use Rattle.ranks.specs.Indexes.{ahead, Gives}

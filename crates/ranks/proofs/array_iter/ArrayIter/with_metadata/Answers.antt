@@ -1,6 +1,6 @@
 use mathlib.Core.Bool.{cond}
 use mathlib.Core.List.{reverse}
-use mathlib.Core.Path.{sym, ap, subst, _∙_}
+use mathlib.Core.Path.{sym, ap, subst}
 use Prim.Native.Nat.{_+_, _-_}
 use lib.Dec.{eqb}
 use lib.ListN.{getD}
