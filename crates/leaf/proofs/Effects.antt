@@ -126,3 +126,8 @@ took rs (Between low best) u f nr hf i b apart = took-new rs nr low f hf u (leve
 pub effect : (rs ss : List ℕ) (spot : Spot) (f : ℕ) → length rs ≡ 15 → f < 15 → Inside rs spot → Arranged rs ss → Sought rs ss spot → Effect ss (taken rs spot f) f
 effect rs ss (Same o) f nr hf i ord s = effect-moved rs nr o f (i .0) (i .1) hf ss ord s
 effect rs ss (Between low best) f nr hf i ord s = effect-new rs nr low f hf ss best s
+
+-- the free slot becomes live
+pub taken-live : (rs : List ℕ) (spot : Spot) (f : ℕ) → length rs ≡ 15 → f < 15 → Inside rs spot → 0 < getD (taken rs spot f) f 0
+taken-live rs (Same o) f nr hf i = omega (arith, i .1, getD-set-same (set rs o 0) f (getD rs o 0) 0 (omega (arith, length-set rs o 0)))
+taken-live rs (Between low best) f nr hf i = omega (arith, getD-set-same (lifted low rs) f (low + 1) 0 (omega (arith, length-lifted low rs)))

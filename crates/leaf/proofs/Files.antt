@@ -21,13 +21,13 @@ use Rattle.leaf.specs.Records.{Whole}
 use Rattle.leaf.specs.Slots.{sideOf, sides, Sorted}
 use Rattle.leaf.specs.Rules.{State, stateOf, holder, used, given, Spare}
 use Rattle.leaf.specs.Seeks.{there, Inside, taken, Sought}
-use Rattle.leaf.specs.Calls.{insertion, Inserted}
+use Rattle.leaf.specs.Calls.{insertion, Inserted, Filled}
 use Rattle.leaf.specs.declared.result.InsertResult.the-variants as insert
 use Rattle.leaf.specs.declared.array.Array.{Array}
 use Rattle.leaf.specs.declared.data_block.Slot.{Slot}
 use Rattle.leaf.proofs.Sides.{before-side, after-side, side-at}
 use Rattle.leaf.specs.declared.seek.Spot.{Spot}
-use Rattle.leaf.proofs.Effects.{Took, Effect, took, effect}
+use Rattle.leaf.proofs.Effects.{Took, Effect, took, effect, taken-live}
 use Rattle.leaf.proofs.Wholes.{whole-out, clear-cases, whole-took}
 use Rattle.leaf.proofs.Finds.{found-there, filed-is}
 use Rattle.leaf.proofs.Finds.{seen as seen-from}
@@ -144,6 +144,11 @@ module _ (a h : Array) (e : stateOf h ≡ used (stateOf a)) where
 
   pub held-state : (word pos : ℕ) (spot : Spot) → pos ≡ slotPos (ones (a .bitmap)) → Reads word (taken (ranksOf (h .metadata)) spot pos) (flagsOf (h .metadata)) → made (ranksOf word) (ones (h .bitmap)) (flagsOf word) ≡ made (taken (ranksOf (a .metadata)) spot (slotPos (ones (a .bitmap)))) (ones (a .bitmap) + 1) (flagsOf (a .metadata))
   held-state word pos spot at r = made-same (r .ranks ∙ ap (λ rs. taken rs spot pos) held-ranks ∙ ap (taken (ranksOf (a .metadata)) spot) at) (ap (λ s. s .uses) e) (r .flags ∙ held-flags)
+
+  pub held-filled : (word pos : ℕ) (spot : Spot) → ones (a .bitmap) < 15 → flagsOf (a .metadata) ≡ 0 → pos ≡ slotPos (ones (a .bitmap)) → Inside (ranksOf (a .metadata)) spot → Reads word (taken (ranksOf (h .metadata)) spot pos) (flagsOf (h .metadata)) → Filled (stateOf a) (made (ranksOf word) (ones (h .bitmap)) (flagsOf word))
+  held-filled word pos spot room z at i r =
+      let u = ones (a .bitmap) in
+      subst (Filled (stateOf a)) (sym (held-state word pos spot at r)) (record { free = z; flags = z; uses = refl; live = taken-live (ranksOf (a .metadata)) spot (slotPos u) (length-digits 15 (a .metadata)) (slot-lt u room) i })
 
   pub held-sought : {K V : Type 0} (O : Order K) (slots : List (Slot K V)) (spot : Spot) (x y : K) → O .place x ≡ O .place y → (Sorted O (ranksOf (h .metadata)) slots → Sought (ranksOf (h .metadata)) (sides O x slots) spot) → Sorted O (ranksOf (a .metadata)) slots → Sought (ranksOf (a .metadata)) (sides O y slots) spot
   held-sought O slots spot x y own f so = subst (λ ss. Sought (ranksOf (a .metadata)) ss spot) (own-sides O x y slots own) (subst (λ rs. Sought rs (sides O x slots) spot) held-ranks (f (subst (λ rs. Sorted O rs slots) (sym held-ranks) so)))

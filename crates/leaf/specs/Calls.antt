@@ -3,12 +3,12 @@
 --     insertion s ss upsert        what filing a key answers; ss are the sides of the slots seen from the key
 --     Inserted                     what it leaves
 --     removal                      what a strike answers and leaves, the condition too
-use mathlib.Core.Bool.{Bool, cond, not, _&&_, _||_}
+use mathlib.Core.Bool.{Bool, false, cond, not, _&&_, _||_}
 use mathlib.Core.List.{List}
 use mathlib.Core.Path.{_≡_}
-use Prim.Native.Nat.{ℕ, _+_, _*_}
+use Prim.Native.Nat.{ℕ, _+_, _*_, _<_}
 use lib.Dec.{eqb, ltb}
-use lib.ListN.{replicate, set}
+use lib.ListN.{getD, replicate, set}
 use Rattle.std.specs.Finite.{nth}
 use Rattle.std.specs.Options.{Cases, isSome}
 use Rattle.std.specs.declared.option.Option.{Option}
@@ -74,6 +74,13 @@ module _ {K V : Type 0} (O : Order K) (a : Array) (slots : List (Slot K V)) (new
   abbrev pub Unchanged : Type 0
   Unchanged = (insertNumber r ≡ 0 → ⊥) → (stateOf a′ ≡ stateOf a) × (slots′ ≡ slots)
 
+-- what a filing that is done makes of the state, whatever the slots hold: no flag was set or is, and one use more is taken by a live slot
+pub record Filled (s s′ : State) : Type 0 where
+  pub free : s .flags ≡ 0
+  pub flags : s′ .flags ≡ 0
+  pub uses : s′ .uses ≡ s .uses + 1
+  pub live : 0 < getD (s′ .ranks) (slotPos (s .uses)) 0
+
 -- ---- filing without a look at the other slots
 
 -- the word, if one is given, goes with one use more
@@ -94,6 +101,15 @@ entryAt (Some p) slots = nth slots p
 -- once slot p is struck
 abbrev pub outcome : State → RemoveResult
 outcome s = cond (eqb (s .flags) 4) remove.Retired remove.Success
+
+-- what a strike that is done makes of the state, whatever the slots hold: a live slot is struck
+pub record Struck (s s′ : State) (r : RemoveResult) : Type 0 where
+  pub at : ℕ
+  pub inside : at < leafLength
+  pub live : 0 < getD (s .ranks) at 0
+  pub warm : isFrozen (s .flags) ≡ false
+  pub state : s′ ≡ struck at s
+  pub answer : r ≡ outcome s′
 
 pub record Removal (C : Type 0) : Type 0 where
   pub answer : RemoveResult

@@ -14,7 +14,7 @@ ghost use Rattle.ranks.specs.Indexes.{ahead, behind, given, InOrder};
 ghost use Rattle.ranks.specs.Boundaries.{byUse, liveCount, rises, boundaryOf};
 ghost use Rattle.leaf.specs.Slots.{sides, Sorted};
 ghost use Rattle.leaf.specs.Rules.{stateOf, holder, used, frozen, thawed, filed, struck, Live, LeastFrom};
-ghost use Rattle.leaf.specs.Calls.{fresh, isFull, entryAt, insertNumber, insertion, Unchanged, Inserted, Fits, pushed, removeNumber, outcome, Removed};
+ghost use Rattle.leaf.specs.Calls.{fresh, isFull, entryAt, insertNumber, insertion, Unchanged, Inserted, Filled, Fits, pushed, removeNumber, outcome, Struck, Removed};
 use crate::array::Array;
 use crate::data_block::Slot;
 use crate::data_block::write;
@@ -175,6 +175,7 @@ impl Array {
     ) -> InsertResult
         requires { ⌜ length (now slots) ≡ leafLength ⌝ }
         ensures unchanged { λ r. ⌜ Unchanged (K·Equivalent .order) (now (self .entry)) (now (slots .entry)) (record { key = key; val = val }) upsert (now (self .exit)) (now (slots .exit)) r ⌝ }
+        ensures filled { λ r. ⌜ (insertNumber r ≡ 0 → Filled (stateOf (now (self .entry))) (stateOf (now (self .exit)))) ⌝ }
         ensures inserted { λ r. ⌜ (Sorted (K·Equivalent .order) (stateOf (now (self .entry)) .ranks) (now (slots .entry)) → Inserted (K·Equivalent .order) (now (self .entry)) (now (slots .entry)) (record { key = key; val = val }) upsert (now (self .exit)) (now (slots .exit)) r) ⌝ }
     {
         let bitmap_pos = self.uses();
@@ -271,6 +272,7 @@ impl Array {
     ) -> RemoveResult
         requires { ⌜ length (now slots) ≡ leafLength ⌝ }
         ensures unchanged { λ r. ⌜ ((removeNumber r ≡ 0 → ⊥) → stateOf (now (self .exit)) ≡ stateOf (now (self .entry))) ⌝ }
+        ensures struck { λ r. ⌜ (removeNumber r ≡ 0 → Struck (stateOf (now (self .entry))) (stateOf (now (self .exit))) r) ⌝ }
         ensures frozen { λ r. ⌜ (isFrozen (stateOf (now (self .entry)) .flags) ≡ true → Removed (K·Equivalent .order) (C·Condition .verdict) (C·Condition .after) (now (self .entry)) (now (condition .entry)) (Q·Equivalent .spells (now (key .entry))) (now (slots .entry)) (now (self .exit)) (now (condition .exit)) r) ⌝ }
         ensures removed { λ r. ⌜ (Sorted (K·Equivalent .order) (stateOf (now (self .entry)) .ranks) (now (slots .entry)) → Removed (K·Equivalent .order) (C·Condition .verdict) (C·Condition .after) (now (self .entry)) (now (condition .entry)) (Q·Equivalent .spells (now (key .entry))) (now (slots .entry)) (now (self .exit)) (now (condition .exit)) r) ⌝ }
         ensures sorted { λ _. ⌜ (Sorted (K·Equivalent .order) (stateOf (now (self .entry)) .ranks) (now (slots .entry)) → Sorted (K·Equivalent .order) (stateOf (now (self .exit)) .ranks) (now (slots .entry))) ⌝ }

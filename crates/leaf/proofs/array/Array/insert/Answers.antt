@@ -7,10 +7,11 @@ use Rattle.ranks.specs.Dimensions.{slotPos}
 use Rattle.leaf.specs.Rules.{stateOf}
 use Rattle.leaf.specs.Slots.{sides, Sorted}
 use Rattle.leaf.specs.Seeks.{there, Inside, taken}
+use Rattle.leaf.specs.Calls.{Filled}
 use Rattle.leaf.specs.declared.data_block.Slot.{Slot}
 use Rattle.leaf.proofs.Wholes.{whole-out}
 use Rattle.leaf.proofs.Finds.{found-there}
-use Rattle.leaf.proofs.Files.{held-ranks, held-flags, held-spare, held-took, held-state, held-sought, held-back, answers-duplicate, inserted}
+use Rattle.leaf.proofs.Files.{held-ranks, held-flags, held-spare, held-took, held-state, held-filled, held-sought, held-back, answers-duplicate, inserted}
 use Rattle.leaf.proofs.array.Array.insert.Needs as need
 use Rattle.leaf.proofs.array.Array.insert.Needs.{else-not-upsert·by·then-not-upsert·else-is-same, else-not-upsert·by·else-not-upsert}
 
@@ -36,6 +37,7 @@ returns-then-is-same g c =
     let sought = held-sought a h e O slots spot _ (c .args .key) (g .K·Comparable·met .own (c .args .key)) (c .seek-spot .ensures .sought) in
     record {
       unchanged = λ _. (back, refl);
+      filled = λ z. absurd (omega arith);
       inserted = λ so. record {
         answer = answers-duplicate (stateOf a) (sides O (c .args .key) slots) (c .args .upsert) (omega (arith, held-flags a h e)) (c .if-not-upsert .taken) (found-there O (g .K·Equivalent·met .lawful) a slots (c .pre) so (c .args .key) spot inside (sought so) ∙ sym (c .if-is-same .ensures tt));
         state = back;
@@ -79,5 +81,6 @@ returns g c =
     ] in
     record {
       unchanged = λ no. absurd (no refl);
+      filled = λ _. subst (Filled (stateOf a)) (sym (ap stateOf (c .forget .ensures))) (held-filled a h e (c .word-with-guard .result) (c .slot-pos-pos .result) spot (omega (arith, whole-out (a .whole) .few)) (omega (arith, held-flags a h e)) at inside (c .word-with-guard .ensures));
       inserted = λ so. inserted O (g .K·Equivalent·met .lawful) a slots (c .pre) new so spot inside (sought so) (c .args .upsert) _ (c .write .last .slots) (omega (arith, whole-out (a .whole) .few)) (omega (arith, held-flags a h e)) free (ap stateOf (c .forget .ensures) ∙ held-state a h e (c .word-with-guard .result) (c .slot-pos-pos .result) spot at (c .word-with-guard .ensures)) (c .write .ensures ∙ ap (λ p. set slots p new) at);
     }

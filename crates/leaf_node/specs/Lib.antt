@@ -1,0 +1,4 @@
+pub mod Records
+pub mod States
+pub mod Steps
+pub mod Strikes
