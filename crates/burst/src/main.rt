@@ -1,5 +1,7 @@
 // One burst of readings, filed as a recorder sends them, put right and listed: the change in velocity along the vehicle's axis
 // (event 1, channel 2), in tenths of a kilometre per hour.
+#![tactic(auto)]
+
 ghost use Rattle.std.specs.Prelude.{◌≡◌, length};
 
 use keys::condition::NotAvailable;

@@ -1,4 +1,6 @@
 // Keys in an order and queries against them, their stored forms, refusals, the values beside keys and conditions on them.
+#![tactic(auto)]
+
 pub mod condition;
 pub mod equivalent;
 pub mod page;

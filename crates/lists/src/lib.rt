@@ -1,4 +1,6 @@
 // Leaf lists: what a node of the store is and does, in plain lists, and the law over every history of its calls.
+#![tactic(auto)]
+
 ghost use Rattle.lists.specs.Bench.{Cases};
 ghost use Rattle.lists.specs.Law.{Law};
 
