@@ -10,7 +10,7 @@ retired_none = refl
 
 pub returns-then-left-eq0 : goal.returns-then-left-eq0
 returns-then-left-eq0 c =
-    let e = c.with-rank-left.ensures in
+    let e = c.with_rank-left.ensures in
     let rs = set (ranks_of c.args.metadata) c.args.pos 0 in
     let f = flags_of c.args.metadata in
     record {
@@ -20,7 +20,7 @@ returns-then-left-eq0 c =
 
 pub returns-else-left-eq0 : goal.returns-else-left-eq0
 returns-else-left-eq0 c =
-    let e = c.with-rank-left.ensures in
+    let e = c.with_rank-left.ensures in
     let rs = set (ranks_of c.args.metadata) c.args.pos 0 in
     let f = flags_of c.args.metadata in
     record {

@@ -7,8 +7,8 @@ use Rattle.ranks.proofs.dimension.raise_above.Goals.{then-rest-low, else-rest-lo
 pub loop-rest-init : goal.loop-rest-init
 loop-rest-init c = (λ _. omega arith, rests_at_start c.args.metadata, omega arith)
 
-pub overflow-add-raised : goal.overflow-add-raised
-overflow-add-raised c =
+pub overflow_add-raised : goal.overflow_add-raised
+overflow_add-raised c =
     let lp = c.loop-rest in
     let n = next_of c.args.metadata lp.rest lp.pos lp.invariant.1 c.loop-rest-test.true in
     let m = lifting_more c.args.metadata c.args.low lp.rest lp.pos lp.raised 1 n lp.invariant.2 (lift_up c.args.low _ (omega (arith, n.rank))) in

@@ -11,14 +11,14 @@ use Rattle.leaf.proofs.Files.{made_same}
 use Rattle.leaf.proofs.Wholes.{whole_out, whole_more, whole_took, not_full}
 use Rattle.leaf.proofs.array.Array.insert_dry.Goals as goal
 
-pub slot-pos-requires : goal.slot-pos-requires
-slot-pos-requires g c = omega (arith, (not_full c.args.self.now c.requires.room).0)
+pub slot_pos-requires : goal.slot_pos-requires
+slot_pos-requires g c = omega (arith, (not_full c.args.self.now c.requires.room).0)
 
-pub word-with-requires : goal.word-with-requires
-word-with-requires g c = record {
+pub word_with-requires : goal.word_with-requires
+word_with-requires g c = record {
   inside = c.seek-spot.ensures.inside;
   room = λ p. omega (arith, (not_full c.args.self.now c.requires.room).0, (whole_out c.args.self.now.whole).bound p);
-  free = c.slot-pos.ensures.inside;
+  free = c.slot_pos.ensures.inside;
 }
 
 pub returns : goal.returns
@@ -30,10 +30,10 @@ returns g c =
     let full = not_full a c.requires.room in
     let spot = c.seek-spot.result in
     let i = c.seek-spot.ensures.inside in
-    let at = c.slot-pos.ensures.value ∙ ap slot_pos c.uses-bitmap-pos.ensures in
-    let r = subst (λ p. Reads c.word-with.result (taken rs spot p) (flags_of a.metadata)) at c.word-with.ensures in
+    let at = c.slot_pos.ensures.value ∙ ap slot_pos c.uses-bitmap_pos.ensures in
+    let r = subst (λ p. Reads c.word_with.result (taken rs spot p) (flags_of a.metadata)) at c.word_with.ensures in
     record {
-      next = c.uses-bitmap-pos.ensures;
-      fits = whole_took (whole_more w full.0) u c.word-with.result (taken rs spot (slot_pos u)) (ones_more a.bitmap) full.1 r (took rs spot u (slot_pos u) (length_digits 15 a.metadata) (slot_lt u full.0) i w.bound w.apart);
+      next = c.uses-bitmap_pos.ensures;
+      fits = whole_took (whole_more w full.0) u c.word_with.result (taken rs spot (slot_pos u)) (ones_more a.bitmap) full.1 r (took rs spot u (slot_pos u) (length_digits 15 a.metadata) (slot_lt u full.0) i w.bound w.apart);
       word = λ so. made_same (r.ranks ∙ filed_is g.K.Equivalent.order g.met.K.Equivalent.lawful a c.args.slots.now c.requires.size so (g.Q.Equivalent.spells c.args.key.now) spot (slot_pos u) i (c.seek-spot.ensures.sought so)) refl r.flags;
     }

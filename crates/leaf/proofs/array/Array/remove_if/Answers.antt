@@ -13,8 +13,8 @@ returns-then-asks g c =
     let a = c.args.self.now in
     let slots = c.args.slots.now in
     let found = c.in-Some.ensures in
-    let warm = sym c.if-is-frozen.ensures in
-    let e = c.remove-unchecked.ensures in
+    let warm = sym c.if-is_frozen.ensures in
+    let e = c.remove_unchecked.ensures in
     record {
       struck = λ _. record { at = c.in-Some.pos; inside = found.live.0; live = found.live.1; warm = warm; state = e.state; answer = e.answer ∙ ap outcome (sym e.state) };
       unchanged = λ no. absurd (no (ap remove_number e.answer ∙ outcome_zero (struck c.in-Some.pos (state_of a))));
@@ -28,7 +28,7 @@ returns-else-asks g c =
     let O = g.K.Equivalent.order in
     let slots = c.args.slots.now in
     let found = c.in-Some.ensures in
-    let warm = sym c.if-is-frozen.ensures in
+    let warm = sym c.if-is_frozen.ensures in
     record {
       unchanged = λ _. refl;
       struck = λ z. absurd (omega arith);

@@ -5,8 +5,8 @@ use Rattle.leaf.proofs.Files.{made_same}
 use Rattle.leaf.proofs.Strikes.{retired_word}
 use Rattle.leaf.proofs.array.Array.remove_unchecked.Goals as goal
 
-pub invariant-of-self : goal.invariant-of-self
-invariant-of-self c = (∣ whole_struck (whole_out c.args.self.now.whole) c.args.pos _ c.requires c.cleared-self.ensures ∣₁, tt)
+pub invariant_of-self : goal.invariant_of-self
+invariant_of-self c = record { whole = ∣ whole_struck (whole_out c.args.self.now.whole) c.args.pos _ c.requires c.cleared-self.ensures ∣₁ }
 
 pub returns-else-self-eq-RETIRED : goal.returns-else-self-eq-RETIRED
 returns-else-self-eq-RETIRED c =

@@ -5,7 +5,7 @@ use Rattle.leaf.proofs.Turns.{seen_none, seen_skip, seen_before, seen_after, see
 use Rattle.leaf.proofs.Sides.{arranged, answered_less, answered_equal, answered_greater}
 use Rattle.leaf.proofs.Wholes.{whole_out}
 use Rattle.leaf.proofs.array.Array.seek.Goals as goal
-use Rattle.leaf.proofs.array.Array.seek.Goals.{then-rank-min-max-rank+then-rank-max-min-rank+in-Less, then-rank-min-max-rank+then-rank-max-min-rank+in-Greater, else-rank-min-max-rank, else-rank-min-max-rank-via-then-rank-min-max-rank+else-rank-max-min-rank, else-rank-min-max-rank-via-else-rank-min-max-rank}
+use Rattle.leaf.proofs.array.Array.seek.Goals.{then-rank-min_max_rank+then-rank-max_min_rank+in-Less, then-rank-min_max_rank+then-rank-max_min_rank+in-Greater, else-rank-min_max_rank, else-rank-min_max_rank-via-then-rank-min_max_rank+else-rank-max_min_rank, else-rank-min_max_rank-via-else-rank-min_max_rank}
 
 pub loop-rest-init : goal.loop-rest-init
 loop-rest-init g c = (λ _. omega arith, rests_at_start c.args.self.now.metadata, tame_none (ranks_of c.args.self.now.metadata), λ _. seen_none _ _ (digits_lt 15 c.args.self.now.metadata))
@@ -30,24 +30,24 @@ loop-rest-preserved g c =
     let n = next_of c.args.self.now.metadata lp.rest lp.pos lp.invariant.1 c.loop-rest-test.true in (
       λ h. (next_of c.args.self.now.metadata _ _ n.left (λ z. omega arith)).inside,
       n.left,
-      elim c.if-rank-min-max-rank.branch [
-        | then-rank-min-max-rank+then-rank-max-min-rank+in-Less w ↦ tame_at w.max-min-rank-is w.min-max-rank-is w.min-max-pos-is (tame_less lp.invariant.2 n.inside n.rank (omega arith))
-        | then-rank-min-max-rank+then-rank-max-min-rank+in-Greater w ↦ tame_at w.max-min-rank-is w.min-max-rank-is w.min-max-pos-is (tame_greater lp.invariant.2 n.inside n.rank (omega arith))
-        | else-rank-min-max-rank w ↦ tame_at w.max-min-rank-is w.min-max-rank-is w.min-max-pos-is lp.invariant.2
+      elim c.if-rank-min_max_rank.branch [
+        | then-rank-min_max_rank+then-rank-max_min_rank+in-Less w ↦ tame_at w.max_min_rank-is w.min_max_rank-is w.min_max_pos-is (tame_less lp.invariant.2 n.inside n.rank (omega arith))
+        | then-rank-min_max_rank+then-rank-max_min_rank+in-Greater w ↦ tame_at w.max_min_rank-is w.min_max_rank-is w.min_max_pos-is (tame_greater lp.invariant.2 n.inside n.rank (omega arith))
+        | else-rank-min_max_rank w ↦ tame_at w.max_min_rank-is w.min_max_rank-is w.min_max_pos-is lp.invariant.2
       ],
       λ so. let s = lp.invariant.3 so in
           let o = arranged O slots c.requires g.met.K.Equivalent.lawful (ranks_of c.args.self.now.metadata) (whole_out c.args.self.now.whole).apart so x in
-          elim c.if-rank-min-max-rank.branch [
-            | then-rank-min-max-rank+then-rank-max-min-rank+in-Less w ↦
+          elim c.if-rank-min_max_rank.branch [
+            | then-rank-min_max_rank+then-rank-max_min_rank+in-Less w ↦
                 let z = answered_less O P A x slots c.requires lp.pos n.inside w.index-slots-pos.result w.in-Less.ensures in
-                seen_at w.max-min-rank-is (w.min-max-rank-is ∙ n.rank) (seen_after n.inside o s (omega arith) (omega arith) z)
-            | then-rank-min-max-rank+then-rank-max-min-rank+in-Greater w ↦
+                seen_at w.max_min_rank-is (w.min_max_rank-is ∙ n.rank) (seen_after n.inside o s (omega arith) (omega arith) z)
+            | then-rank-min_max_rank+then-rank-max_min_rank+in-Greater w ↦
                 let z = answered_greater O P A x slots c.requires lp.pos n.inside w.index-slots-pos.result w.in-Greater.ensures in
-                seen_at (w.max-min-rank-is ∙ n.rank) w.min-max-rank-is (seen_before n.inside o s (omega arith) z)
-            | else-rank-min-max-rank w ↦
-                seen_at w.max-min-rank-is w.min-max-rank-is (seen_skip n.inside o s (elim w.else-rank-min-max-rank.branch [
-                  | else-rank-min-max-rank-via-then-rank-min-max-rank+else-rank-max-min-rank t ↦ inl (omega arith)
-                  | else-rank-min-max-rank-via-else-rank-min-max-rank t ↦ inr (omega arith)
+                seen_at (w.max_min_rank-is ∙ n.rank) w.min_max_rank-is (seen_before n.inside o s (omega arith) z)
+            | else-rank-min_max_rank w ↦
+                seen_at w.max_min_rank-is w.min_max_rank-is (seen_skip n.inside o s (elim w.else-rank-min_max_rank.branch [
+                  | else-rank-min_max_rank-via-then-rank-min_max_rank+else-rank-max_min_rank t ↦ inl (omega arith)
+                  | else-rank-min_max_rank-via-else-rank-min_max_rank t ↦ inr (omega arith)
                 ]))
           ],
     )

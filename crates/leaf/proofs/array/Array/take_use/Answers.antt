@@ -3,14 +3,14 @@ use Rattle.ranks.proofs.Uses.{ones_more}
 use Rattle.leaf.proofs.Wholes.{counted, whole_out, whole_more, more_fits}
 use Rattle.leaf.proofs.array.Array.take_use.Goals as goal
 
-pub overflow-mul-self : goal.overflow-mul-self
-overflow-mul-self c = omega (arith, more_fits (whole_out c.args.self.now.whole) c.requires)
+pub overflow_mul-self : goal.overflow_mul-self
+overflow_mul-self c = omega (arith, more_fits (whole_out c.args.self.now.whole) c.requires)
 
-pub overflow-add-self : goal.overflow-add-self
-overflow-add-self c = omega (arith, more_fits (whole_out c.args.self.now.whole) c.requires)
+pub overflow_add-self : goal.overflow_add-self
+overflow_add-self c = omega (arith, more_fits (whole_out c.args.self.now.whole) c.requires)
 
-pub invariant-of-self : goal.invariant-of-self
-invariant-of-self c = (∣ whole_more (whole_out c.args.self.now.whole) c.requires ∣₁, tt)
+pub invariant_of-self : goal.invariant_of-self
+invariant_of-self c = record { whole = ∣ whole_more (whole_out c.args.self.now.whole) c.requires ∣₁ }
 
 pub returns : goal.returns
 returns c =

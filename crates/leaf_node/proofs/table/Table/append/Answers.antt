@@ -5,8 +5,8 @@ use Rattle.leaf_node.proofs.Leaves.{marked_filled}
 use Rattle.leaf_node.proofs.Steps.{appended, duplicate, crowded}
 use Rattle.leaf_node.proofs.table.Table.append.Goals as goal
 
-pub with-leaf-requires : goal.with-leaf-requires
-with-leaf-requires g c = record { inside = c.seat-n.ensures.inside; marked = marked_filled _ _ (c.in-Success.ensures.filled refl) }
+pub with_leaf-requires : goal.with_leaf-requires
+with_leaf-requires g c = record { inside = c.seat-n.ensures.inside; marked = marked_filled _ _ (c.in-Success.ensures.filled refl) }
 
 pub returns-in-Success : goal.returns-in-Success
 returns-in-Success g c =
@@ -18,11 +18,11 @@ returns-in-Success g c =
     let d = c.index-self-n.result in
     let is = state_read rec.leaves n d (omega (arith, c.seat-n.ensures.inside, (sound_out rec.sound).table)) in
     let e = c.in-Success.ensures in
-    let slots' = c.insert-in.new.slots in
-    let p = c.with-leaf.ensures in
+    let slots' = c.insert_in.new.slots in
+    let p = c.with_leaf.ensures in
     record {
       unchanged = λ no. absurd (no refl);
-      appended = λ k. appended O g.met.K.Equivalent.lawful rec slots c.requires k c.if-self.false new c.args.upsert _ (g.met.K.Comparable.own c.args.key) c.target.result n c.target.ensures.inside c.seat-n.ensures.value (c.target.ensures.aimed k) (c.target.ensures.leaf k) (get_or rec.leaves n d) is slots' c.insert-in.new.array c.with-leaf.result (record { children = p.children; seats = p.seats; leaves = p.leaves; gone = p.gone; others = e.others }) e.inserted;
+      appended = λ k. appended O g.met.K.Equivalent.lawful rec slots c.requires k c.if-self.false new c.args.upsert _ (g.met.K.Comparable.own c.args.key) c.target.result n c.target.ensures.inside c.seat-n.ensures.value (c.target.ensures.aimed k) (c.target.ensures.leaf k) (get_or rec.leaves n d) is slots' c.insert_in.new.array c.with_leaf.result (record { children = p.children; seats = p.seats; leaves = p.leaves; gone = p.gone; others = e.others }) e.inserted;
     }
 
 pub returns-in-Duplicate : goal.returns-in-Duplicate
@@ -35,10 +35,10 @@ returns-in-Duplicate g c =
     let d = c.index-self-n.result in
     let is = state_read rec.leaves n d (omega (arith, c.seat-n.ensures.inside, (sound_out rec.sound).table)) in
     let e = c.in-Duplicate.ensures in
-    let slots' = c.insert-in.new.slots in
+    let slots' = c.insert_in.new.slots in
     record {
       unchanged = λ no. (refl, e.unchanged no);
-      appended = λ k. duplicate O g.met.K.Equivalent.lawful rec slots c.requires k c.if-self.false new c.args.upsert _ (g.met.K.Comparable.own c.args.key) c.target.result n c.target.ensures.inside c.seat-n.ensures.value (c.target.ensures.aimed k) (c.target.ensures.leaf k) (get_or rec.leaves n d) is slots' c.insert-in.new.array e.inserted;
+      appended = λ k. duplicate O g.met.K.Equivalent.lawful rec slots c.requires k c.if-self.false new c.args.upsert _ (g.met.K.Comparable.own c.args.key) c.target.result n c.target.ensures.inside c.seat-n.ensures.value (c.target.ensures.aimed k) (c.target.ensures.leaf k) (get_or rec.leaves n d) is slots' c.insert_in.new.array e.inserted;
     }
 
 pub returns-in-Full : goal.returns-in-Full
@@ -51,8 +51,8 @@ returns-in-Full g c =
     let d = c.index-self-n.result in
     let is = state_read rec.leaves n d (omega (arith, c.seat-n.ensures.inside, (sound_out rec.sound).table)) in
     let e = c.in-Full.ensures in
-    let slots' = c.insert-in.new.slots in
+    let slots' = c.insert_in.new.slots in
     record {
       unchanged = λ no. (refl, e.unchanged no);
-      appended = λ k. crowded O g.met.K.Equivalent.lawful rec slots c.requires k c.if-self.false new c.args.upsert _ (g.met.K.Comparable.own c.args.key) c.target.result n c.target.ensures.inside c.seat-n.ensures.value (c.target.ensures.aimed k) (c.target.ensures.leaf k) (get_or rec.leaves n d) is slots' c.insert-in.new.array e.inserted;
+      appended = λ k. crowded O g.met.K.Equivalent.lawful rec slots c.requires k c.if-self.false new c.args.upsert _ (g.met.K.Comparable.own c.args.key) c.target.result n c.target.ensures.inside c.seat-n.ensures.value (c.target.ensures.aimed k) (c.target.ensures.leaf k) (get_or rec.leaves n d) is slots' c.insert_in.new.array e.inserted;
     }

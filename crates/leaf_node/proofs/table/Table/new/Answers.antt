@@ -3,8 +3,8 @@ use Rattle.leaf_node.proofs.Sounds.{sound_fresh, all_fresh}
 use Rattle.leaf_node.proofs.States.{node_fresh, kept_fresh}
 use Rattle.leaf_node.proofs.table.Table.new.Goals as goal
 
-pub invariant-of-result : goal.invariant-of-result
-invariant-of-result g c = (∣ sound_fresh c.new.result c.new-2.result c.new.ensures c.new-2.ensures ∣₁, tt)
+pub invariant_of-result : goal.invariant_of-result
+invariant_of-result g c = record { sound = ∣ sound_fresh c.new.result c.new-2.result c.new.ensures c.new-2.ensures ∣₁ }
 
 pub returns : goal.returns
 returns g c slots =

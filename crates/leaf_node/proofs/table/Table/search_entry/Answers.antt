@@ -13,8 +13,8 @@ returns-then-self g c = record {
   entry = λ k z. absurd (both_ways _ z c.if-self.true);
 }
 
-pub search-entry-requires : goal.search-entry-requires
-search-entry-requires g c = ap length c.part.ensures ∙ length_part c.seat-n.result c.args.slots.now c.requires (omega (arith, c.seat-n.ensures.inside))
+pub search_entry-requires : goal.search_entry-requires
+search_entry-requires g c = ap length c.part.ensures ∙ length_part c.seat-n.result c.args.slots.now c.requires (omega (arith, c.seat-n.ensures.inside))
 
 pub returns : goal.returns
 returns g c =
@@ -26,6 +26,6 @@ returns g c =
     let h = c.seat-n.ensures.inside in
     let len = ap length c.part.ensures ∙ length_part n slots c.requires (omega (arith, h)) in
     let entry = λ (k : Kept O rec slots).
-    found_leaf O g.met.K.Equivalent.lawful x rec slots k n h (get_or rec.leaves n c.index-self-n.result) (state_read rec.leaves n c.index-self-n.result (omega (arith, (sound_out rec.sound).table))) c.part.result.now c.part.ensures len c.search-entry.result c.search-entry.ensures
+    found_leaf O g.met.K.Equivalent.lawful x rec slots k n h (get_or rec.leaves n c.index-self-n.result) (state_read rec.leaves n c.index-self-n.result (omega (arith, (sound_out rec.sound).table))) c.part.result.now c.part.ensures len c.search_entry.result c.search_entry.ensures
     ∙ sym (ap (λ l. lookup O (O.place x) (lives l)) (c.target.ensures.leaf k ∙ ap (leaf_no rec slots) (sym c.seat-n.ensures.value))) in
     record { answer = λ k. found_state O (O.place x) rec slots _ c.if-self.false (entry k); entry = λ k _. entry k }

@@ -16,11 +16,11 @@ returns-then-self g c =
     let z = strike_gone g.K.Equivalent.order (g.K.Equivalent.order.place (g.Q.Equivalent.spells c.args.key.now)) (g.C.Condition.verdict c.args.condition.now) c.args.self.now c.args.slots.now c.if-self.true in
     record { unchanged = λ _. refl; struck = λ _. z.0; asked = λ _. ap (asked g.C.Condition.after c.args.condition.now) z.1; kept = λ k. k }
 
-pub remove-if-requires : goal.remove-if-requires
-remove-if-requires g c = ap length c.part.ensures ∙ length_part c.seat-n.result c.args.slots.now c.requires (omega (arith, c.seat-n.ensures.inside))
+pub remove_if-requires : goal.remove_if-requires
+remove_if-requires g c = ap length c.part.ensures ∙ length_part c.seat-n.result c.args.slots.now c.requires (omega (arith, c.seat-n.ensures.inside))
 
-pub with-leaf-requires : goal.with-leaf-requires
-with-leaf-requires g c =
+pub with_leaf-requires : goal.with_leaf-requires
+with_leaf-requires g c =
     let rec = c.args.self.now in
     let n = c.seat-n.result in
     let h = c.seat-n.ensures.inside in
@@ -29,8 +29,8 @@ with-leaf-requires g c =
     let is = state_read rec.leaves n d (omega (arith, h, (sound_out rec.sound).table)) in
     record { inside = h; marked = marked_struck (get_or rec.leaves n d) _ o.at (subst Marked (sym is) ((sound_out rec.sound).leaf n h)) o.live o.state }
 
-pub with-leaf-requires-in-Retired : goal.with-leaf-requires-in-Retired
-with-leaf-requires-in-Retired g c =
+pub with_leaf-requires-in-Retired : goal.with_leaf-requires-in-Retired
+with_leaf-requires-in-Retired g c =
     let rec = c.args.self.now in
     let n = c.seat-n.result in
     let h = c.seat-n.ensures.inside in
@@ -50,18 +50,18 @@ returns-in-Success g c =
     let a = get_or rec.leaves n d in
     let is = state_read rec.leaves n d (omega (arith, c.seat-n.ensures.inside, (sound_out rec.sound).table)) in
     let e = c.in-Success.ensures in
-    let a' = c.remove-if.new.self in
+    let a' = c.remove_if.new.self in
     let c₀ = c.args.condition.now in
-    let c' = c.remove-if.new.condition in
+    let c' = c.remove_if.new.condition in
     let done = subst (λ zs. Sorted O (state_of a).ranks zs → Removed O g.C.Condition.verdict g.C.Condition.after a c₀ x zs a' c' remove.Success) c.part.ensures e.removed in
     let sorted = subst (λ zs. Sorted O (state_of a).ranks zs → Sorted O (state_of a').ranks zs) c.part.ensures e.sorted in
     let so = λ (k : Kept O rec slots). subst (λ s. Sorted O s.ranks (part n slots)) (sym is) (k.leaves n c.seat-n.ensures.inside) in
-    let p = c.with-leaf.ensures in
+    let p = c.with_leaf.ensures in
     record {
       unchanged = λ no. absurd (no refl);
-      struck = λ k. struck_alive O g.met.K.Equivalent.lawful g.C.Condition.verdict g.C.Condition.after rec slots c.requires k c.if-self.false x c.target.result n c.target.ensures.inside c.seat-n.ensures.value (c.target.ensures.aimed k) (c.target.ensures.leaf k) a is c₀ a' c' c.with-leaf.result (record { children = p.children; seats = p.seats; leaves = p.leaves; gone = p.gone; others = λ _ _ _. refl }) done;
+      struck = λ k. struck_alive O g.met.K.Equivalent.lawful g.C.Condition.verdict g.C.Condition.after rec slots c.requires k c.if-self.false x c.target.result n c.target.ensures.inside c.seat-n.ensures.value (c.target.ensures.aimed k) (c.target.ensures.leaf k) a is c₀ a' c' c.with_leaf.result (record { children = p.children; seats = p.seats; leaves = p.leaves; gone = p.gone; others = λ _ _ _. refl }) done;
       asked = λ k. asked_after O g.met.K.Equivalent.lawful g.C.Condition.verdict g.C.Condition.after rec slots c.requires k c.if-self.false x c.target.result n c.target.ensures.inside c.seat-n.ensures.value (c.target.ensures.aimed k) (c.target.ensures.leaf k) a is c₀ a' c' remove.Success done;
-      kept = λ k. kept_struck O g.met.K.Equivalent.lawful g.C.Condition.verdict g.C.Condition.after rec slots c.requires k c.if-self.false x c.target.result n c.target.ensures.inside c.seat-n.ensures.value (c.target.ensures.aimed k) (c.target.ensures.leaf k) a is c₀ a' c' c.with-leaf.result (record { children = p.children; seats = p.seats; leaves = p.leaves; gone = p.gone; others = λ _ _ _. refl }) (sorted (so k));
+      kept = λ k. kept_struck O g.met.K.Equivalent.lawful g.C.Condition.verdict g.C.Condition.after rec slots c.requires k c.if-self.false x c.target.result n c.target.ensures.inside c.seat-n.ensures.value (c.target.ensures.aimed k) (c.target.ensures.leaf k) a is c₀ a' c' c.with_leaf.result (record { children = p.children; seats = p.seats; leaves = p.leaves; gone = p.gone; others = λ _ _ _. refl }) (sorted (so k));
     }
 
 pub returns-in-Retired : goal.returns-in-Retired
@@ -75,18 +75,18 @@ returns-in-Retired g c =
     let a = get_or rec.leaves n d in
     let is = state_read rec.leaves n d (omega (arith, c.seat-n.ensures.inside, (sound_out rec.sound).table)) in
     let e = c.in-Retired.ensures in
-    let a' = c.remove-if.new.self in
+    let a' = c.remove_if.new.self in
     let c₀ = c.args.condition.now in
-    let c' = c.remove-if.new.condition in
+    let c' = c.remove_if.new.condition in
     let done = subst (λ zs. Sorted O (state_of a).ranks zs → Removed O g.C.Condition.verdict g.C.Condition.after a c₀ x zs a' c' remove.Retired) c.part.ensures e.removed in
     let sorted = subst (λ zs. Sorted O (state_of a).ranks zs → Sorted O (state_of a').ranks zs) c.part.ensures e.sorted in
     let so = λ (k : Kept O rec slots). subst (λ s. Sorted O s.ranks (part n slots)) (sym is) (k.leaves n c.seat-n.ensures.inside) in
-    let p = c.with-leaf-in-Retired.ensures in
+    let p = c.with_leaf-in-Retired.ensures in
     record {
       unchanged = λ no. absurd (no refl);
-      struck = λ k. struck_last O g.met.K.Equivalent.lawful g.C.Condition.verdict g.C.Condition.after rec slots c.requires k c.if-self.false x c.target.result n c.target.ensures.inside c.seat-n.ensures.value (c.target.ensures.aimed k) (c.target.ensures.leaf k) a is c₀ a' c' c.with-leaf-in-Retired.result (record { children = p.children; seats = p.seats; leaves = p.leaves; gone = p.gone; others = λ _ _ _. refl }) done;
+      struck = λ k. struck_last O g.met.K.Equivalent.lawful g.C.Condition.verdict g.C.Condition.after rec slots c.requires k c.if-self.false x c.target.result n c.target.ensures.inside c.seat-n.ensures.value (c.target.ensures.aimed k) (c.target.ensures.leaf k) a is c₀ a' c' c.with_leaf-in-Retired.result (record { children = p.children; seats = p.seats; leaves = p.leaves; gone = p.gone; others = λ _ _ _. refl }) done;
       asked = λ k. asked_after O g.met.K.Equivalent.lawful g.C.Condition.verdict g.C.Condition.after rec slots c.requires k c.if-self.false x c.target.result n c.target.ensures.inside c.seat-n.ensures.value (c.target.ensures.aimed k) (c.target.ensures.leaf k) a is c₀ a' c' remove.Retired done;
-      kept = λ k. kept_struck O g.met.K.Equivalent.lawful g.C.Condition.verdict g.C.Condition.after rec slots c.requires k c.if-self.false x c.target.result n c.target.ensures.inside c.seat-n.ensures.value (c.target.ensures.aimed k) (c.target.ensures.leaf k) a is c₀ a' c' c.with-leaf-in-Retired.result (record { children = p.children; seats = p.seats; leaves = p.leaves; gone = p.gone; others = λ _ _ _. refl }) (sorted (so k));
+      kept = λ k. kept_struck O g.met.K.Equivalent.lawful g.C.Condition.verdict g.C.Condition.after rec slots c.requires k c.if-self.false x c.target.result n c.target.ensures.inside c.seat-n.ensures.value (c.target.ensures.aimed k) (c.target.ensures.leaf k) a is c₀ a' c' c.with_leaf-in-Retired.result (record { children = p.children; seats = p.seats; leaves = p.leaves; gone = p.gone; others = λ _ _ _. refl }) (sorted (so k));
     }
 
 pub returns-in-Fail : goal.returns-in-Fail
@@ -100,9 +100,9 @@ returns-in-Fail g c =
     let a = get_or rec.leaves n d in
     let is = state_read rec.leaves n d (omega (arith, c.seat-n.ensures.inside, (sound_out rec.sound).table)) in
     let e = c.in-Fail.ensures in
-    let a' = c.remove-if.new.self in
+    let a' = c.remove_if.new.self in
     let c₀ = c.args.condition.now in
-    let c' = c.remove-if.new.condition in
+    let c' = c.remove_if.new.condition in
     let done = subst (λ zs. Sorted O (state_of a).ranks zs → Removed O g.C.Condition.verdict g.C.Condition.after a c₀ x zs a' c' remove.Fail) c.part.ensures e.removed in
     record {
       unchanged = λ _. refl;
@@ -122,9 +122,9 @@ returns-in-Frozen g c =
     let a = get_or rec.leaves n d in
     let is = state_read rec.leaves n d (omega (arith, c.seat-n.ensures.inside, (sound_out rec.sound).table)) in
     let e = c.in-Frozen.ensures in
-    let a' = c.remove-if.new.self in
+    let a' = c.remove_if.new.self in
     let c₀ = c.args.condition.now in
-    let c' = c.remove-if.new.condition in
+    let c' = c.remove_if.new.condition in
     let done = subst (λ zs. Sorted O (state_of a).ranks zs → Removed O g.C.Condition.verdict g.C.Condition.after a c₀ x zs a' c' remove.Frozen) c.part.ensures e.removed in
     record {
       unchanged = λ _. refl;

@@ -3,8 +3,8 @@ use Rattle.leaf_node.proofs.Parts.{length_part}
 use Rattle.leaf_node.proofs.States.{target_state, aim_child, aim_none}
 use Rattle.leaf_node.proofs.table.Table.target.Goals as goal
 
-pub min-greater-equal-requires : goal.min-greater-equal-requires
-min-greater-equal-requires g c = ap length c.part.ensures ∙ length_part 17 c.args.slots.now c.requires (omega arith)
+pub min_greater_equal-requires : goal.min_greater_equal-requires
+min_greater_equal-requires g c = ap length c.part.ensures ∙ length_part 17 c.args.slots.now c.requires (omega arith)
 
 pub returns-in-Some : goal.returns-in-Some
 returns-in-Some g c =

@@ -6,8 +6,8 @@ use Rattle.leaf_table.proofs.Leaves.{marked_filled}
 use Rattle.leaf_table.proofs.Steps.{grown_at, duplicate_at, full_at}
 use Rattle.leaf_table.proofs.table.Table.insert_at.Goals as goal
 
-pub with-leaves-requires : goal.with-leaves-requires
-with-leaves-requires g c =
+pub with_leaves-requires : goal.with_leaves-requires
+with_leaves-requires g c =
     let rec = c.args.self in
     let n = c.seat-n.result in
     record {
@@ -24,10 +24,10 @@ returns-in-Success g c =
     let d = c.index-leaves-n.result in
     let is = state_read rec.leaves n d (omega (arith, c.seat-n.ensures.inside, (sound_out rec.sound).table)) in
     let e = c.in-Success.ensures in
-    let p = c.with-leaves.ensures in
+    let p = c.with_leaves.ensures in
     record {
       unchanged = λ no. absurd (no refl);
-      filed = λ so. grown_at g.K.Equivalent.order g.met.K.Equivalent.lawful rec slots c.requires.size c.args.t n c.requires.inside c.seat-n.ensures.value (get_or rec.leaves n d) is so new c.args.upsert c.insert-in.new.array c.insert-in.new.slots c.with-leaves.result (record { children = p.children; seats = p.seats; leaves = p.leaves; gone = p.gone; others = e.others }) e.inserted;
+      filed = λ so. grown_at g.K.Equivalent.order g.met.K.Equivalent.lawful rec slots c.requires.size c.args.t n c.requires.inside c.seat-n.ensures.value (get_or rec.leaves n d) is so new c.args.upsert c.insert_in.new.array c.insert_in.new.slots c.with_leaves.result (record { children = p.children; seats = p.seats; leaves = p.leaves; gone = p.gone; others = e.others }) e.inserted;
     }
 
 pub returns-in-Duplicate : goal.returns-in-Duplicate
@@ -41,7 +41,7 @@ returns-in-Duplicate g c =
     let e = c.in-Duplicate.ensures in
     record {
       unchanged = λ no. (refl, e.unchanged no);
-      filed = λ so. duplicate_at g.K.Equivalent.order g.met.K.Equivalent.lawful rec slots c.requires.size c.args.t n c.requires.inside c.seat-n.ensures.value (get_or rec.leaves n d) is so new c.args.upsert c.insert-in.new.array c.insert-in.new.slots rec e.inserted;
+      filed = λ so. duplicate_at g.K.Equivalent.order g.met.K.Equivalent.lawful rec slots c.requires.size c.args.t n c.requires.inside c.seat-n.ensures.value (get_or rec.leaves n d) is so new c.args.upsert c.insert_in.new.array c.insert_in.new.slots rec e.inserted;
     }
 
 pub returns-in-Full : goal.returns-in-Full
@@ -55,5 +55,5 @@ returns-in-Full g c =
     let e = c.in-Full.ensures in
     record {
       unchanged = λ no. (refl, e.unchanged no);
-      filed = λ so. full_at g.K.Equivalent.order g.met.K.Equivalent.lawful rec slots c.requires.size c.args.t n c.requires.inside c.seat-n.ensures.value (get_or rec.leaves n d) is so new c.args.upsert c.insert-in.new.array c.insert-in.new.slots rec e.inserted;
+      filed = λ so. full_at g.K.Equivalent.order g.met.K.Equivalent.lawful rec slots c.requires.size c.args.t n c.requires.inside c.seat-n.ensures.value (get_or rec.leaves n d) is so new c.args.upsert c.insert_in.new.array c.insert_in.new.slots rec e.inserted;
     }

@@ -10,8 +10,8 @@ use Rattle.leaf_table.proofs.table.Table.search_entry.Goals as goal
 pub returns-then-self : goal.returns-then-self
 returns-then-self g c k = found_gone g.K.Equivalent.order _ c.args.self.now c.args.slots.now c.if-self.true
 
-pub search-entry-requires : goal.search-entry-requires
-search-entry-requires g c = ap length c.part.ensures ∙ length_part c.seat-n.result c.args.slots.now c.requires (omega (arith, c.seat-n.ensures.inside))
+pub search_entry-requires : goal.search_entry-requires
+search_entry-requires g c = ap length c.part.ensures ∙ length_part c.seat-n.result c.args.slots.now c.requires (omega (arith, c.seat-n.ensures.inside))
 
 pub returns : goal.returns
 returns g c k =
@@ -28,5 +28,5 @@ returns g c k =
     (state_read rec.leaves n d (omega (arith, (sound_out rec.sound).table)) ∙ ap (state_no rec.leaves) at)
     c.part.result.now (c.part.ensures ∙ ap (λ m. part m slots) at)
     (ap length c.part.ensures ∙ length_part n slots c.requires (omega (arith, h)))
-    c.search-entry.result c.search-entry.ensures
+    c.search_entry.result c.search_entry.ensures
     ∙ sym (ap (λ l. lookup O (O.place x) (lives l)) (c.target.ensures.leaf k)))

@@ -3,11 +3,11 @@ use Rattle.ranks.specs.Indexes.{ahead, Gives}
 use Rattle.ranks.proofs.Cursors.{cursor_out, cursor_put, up_skip, gives_up}
 use Rattle.ranks.proofs.array_iter.ArrayIter.next.Goals as goal
 
-pub invariant-of-self : goal.invariant-of-self
-invariant-of-self c =
+pub invariant_of-self : goal.invariant_of-self
+invariant_of-self c =
     let lp = c.loop-rank in
     let s = cursor_out lp.self.sound in
-    (∣ cursor_put s lp.rank (omega arith) (λ h. s.slot lp.rank h (omega arith) c.if-pos.true) ∣₁, tt)
+    record { sound = ∣ cursor_put s lp.rank (omega arith) (λ h. s.slot lp.rank h (omega arith) c.if-pos.true) ∣₁ }
 
 pub returns-then-pos : goal.returns-then-pos
 returns-then-pos c =

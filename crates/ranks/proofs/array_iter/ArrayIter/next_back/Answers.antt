@@ -14,11 +14,11 @@ loop-rank-init c =
       | else-last-eq0 w ↦ (refl, let e : c.if-last-eq0.end - 1 ≡ cond (eqb (get_or ix 0 0) 0) 15 (get_or ix 0 0 - 1) = grind (arith, nat_tests) in ap (down_from ix) e, omega (arith, w.end-is))
     ]
 
-pub invariant-of-self : goal.invariant-of-self
-invariant-of-self c =
+pub invariant_of-self : goal.invariant_of-self
+invariant_of-self c =
     let lp = c.loop-rank in
     let s = cursor_out lp.self.sound in
-    (∣ cursor_put s (lp.rank - 1) (omega (arith, lp.invariant.2)) (λ h. s.slot (lp.rank - 1) h (omega (arith, lp.invariant.2)) c.if-pos.true) ∣₁, tt)
+    record { sound = ∣ cursor_put s (lp.rank - 1) (omega (arith, lp.invariant.2)) (λ h. s.slot (lp.rank - 1) h (omega (arith, lp.invariant.2)) c.if-pos.true) ∣₁ }
 
 pub returns-then-pos : goal.returns-then-pos
 returns-then-pos c =

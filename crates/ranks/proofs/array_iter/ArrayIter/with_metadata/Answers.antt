@@ -5,14 +5,14 @@ use Rattle.ranks.proofs.Words.{length_digits, digits_lt}
 use Rattle.ranks.proofs.Cursors.{index_cursor, index_order, down_up}
 use Rattle.ranks.proofs.array_iter.ArrayIter.with_metadata.Goals as goal
 
-pub invariant-of-result : goal.invariant-of-result
-invariant-of-result c = (∣ index_cursor c.build-index.ensures ∣₁, tt)
+pub invariant_of-result : goal.invariant_of-result
+invariant_of-result c = record { sound = ∣ index_cursor c.build_index.ensures ∣₁ }
 
 pub returns : goal.returns
 returns c =
     let w = c.args.metadata in
-    let ix = c.build-index.result in
-    let s = c.build-index.ensures in
+    let ix = c.build_index.result in
+    let s = c.build_index.ensures in
     let order = index_order s (length_digits 15 w) (digits_lt 15 w) in
     record {
       given = ap (λ r. cond (eqb r 0) None (Some (get_or ix r 0))) s.start;
