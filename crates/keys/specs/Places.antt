@@ -1,9 +1,9 @@
 -- What an order says of two places, and that the orders of specs/Orders are orders.
 use Rattle.std.specs.Prelude.{◌≡◌, true, ◌⊎◌, refl}
-use Rattle.std.proofs.Common.{inl, inr, arith}
+use Rattle.std.proofs.Common.{ap, inl, inr, arith}
 use Rattle.std.proofs.lemmas.Int.{ints}
 use Rattle.std.proofs.lemmas.Bool.Decides.{nat_tests}
-use Rattle.keys.specs.Orders.{Order, Ordered, Way, before, same, after, is_same, numbers, integers, by, then_by}
+use Rattle.keys.specs.Orders.{Order, Ordered, Way, before, same, after, is_same, turned, numbers, integers, by, then_by, reversed}
 
 pub ways : (w : Way) → (w ≡ before) ⊎ ((w ≡ same) ⊎ (w ≡ after))
 ways before = inl refl
@@ -51,4 +51,13 @@ then_ordered O P L M = record {
       let t = L.only q.0 r.0 in
       let b = M.through p.1 q.1 r.1 in
       grind arith;
+}
+
+pub reversed_ordered : {K R : Type 0} (of : R → K) (O : Order K) → Ordered O → Ordered (reversed of O)
+reversed_ordered of O L = record {
+  self = λ p. ap turned (L.self p);
+  only = λ p q h. L.only p q (grind arith);
+  flip = λ p q h. ap turned (L.flop p q (grind arith));
+  flop = λ p q h. ap turned (L.flip p q (grind arith));
+  through = λ p q r h k. ap turned (L.flip r p (L.through r q p (L.flop q r (grind arith)) (L.flop p q (grind arith))));
 }

@@ -1,7 +1,8 @@
 // Pages, by address.
-ghost use Rattle.std.specs.Prelude.{◌≡◌, ◌<◌, Decides};
+ghost use Rattle.std.specs.Prelude.{◌≡◌, ◌<◌, Decides, refl};
 ghost use Rattle.keys.specs.Pages.{pages, page_of};
-ghost use Rattle.std.proofs.Common.{rules};
+ghost use Rattle.keys.specs.Orders.{numbers};
+ghost use Rattle.keys.specs.Places.{numbers_ordered, by_ordered};
 
 use crate::equivalent::{Comparable, Equivalent, is_before};
 use crate::stored::Spelled;
@@ -17,7 +18,7 @@ impl Equivalent<Page> for Page {
 
     ghost spells = { λ p. p };
 
-    ghost lawful = { Prim.search rules };
+    ghost lawful = { by_ordered _ numbers numbers_ordered };
 
     fn equivalent(&self, key: &Page) -> bool {
         self.address == key.address
@@ -25,9 +26,9 @@ impl Equivalent<Page> for Page {
 }
 
 impl Comparable<Page> for Page {
-    ghost own = { Prim.search rules };
+    ghost own = { λ _. refl };
 
-    ghost agree = { Prim.search rules };
+    ghost agree = { λ _ _. refl };
 
     fn compare(&self, key: &Page) -> Ordering {
         self.address.cmp(&key.address)

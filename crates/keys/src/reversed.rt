@@ -1,6 +1,7 @@
 // The same keys and queries in the opposite order.
-ghost use Rattle.keys.specs.Orders.{reversed};
-ghost use Rattle.std.proofs.Common.{rules};
+ghost use Rattle.keys.specs.Orders.{reversed, turned};
+ghost use Rattle.std.proofs.Common.{ap};
+ghost use Rattle.keys.specs.Places.{reversed_ordered};
 
 use crate::equivalent::{Comparable, Equivalent};
 use std::cmp::Ordering;
@@ -15,7 +16,7 @@ impl<K, Q: Equivalent<K>> Equivalent<Reversed<K>> for Reversed<Q> {
 
     ghost spells = { λ q. record { key = Q.Equivalent.spells q.key } };
 
-    ghost lawful = { Prim.search rules };
+    ghost lawful = { reversed_ordered (λ r. r.key) Q.Equivalent.order Q.Equivalent.lawful };
 
     fn equivalent(&self, key: &Reversed<K>) -> bool {
         self.key.equivalent(&key.key)
@@ -23,9 +24,9 @@ impl<K, Q: Equivalent<K>> Equivalent<Reversed<K>> for Reversed<Q> {
 }
 
 impl<K: Equivalent<K>, Q: Comparable<K>> Comparable<Reversed<K>> for Reversed<Q> {
-    ghost own = { Prim.search rules };
+    ghost own = { λ k. Q.Comparable.own k.key };
 
-    ghost agree = { Prim.search rules };
+    ghost agree = { λ x y. ap turned (Q.Comparable.agree x.key y.key) };
 
     fn compare(&self, key: &Reversed<K>) -> Ordering {
         self.key.compare(&key.key).reverse()

@@ -1,9 +1,8 @@
 // Samples, by event, then signed time, then channel.
-ghost use Rattle.std.specs.Prelude.{◌≡◌, Decides};
+ghost use Rattle.std.specs.Prelude.{◌≡◌, Decides, refl};
 ghost use Rattle.keys.specs.Samples.{samples, sample_of, Sooner};
 ghost use Rattle.keys.specs.Orders.{numbers, integers};
 ghost use Rattle.keys.specs.Places.{numbers_ordered, integers_ordered, by_ordered, then_ordered};
-ghost use Rattle.std.proofs.Common.{rules};
 
 use crate::equivalent::{Comparable, Equivalent, is_before};
 use crate::stored::Spelled;
@@ -30,9 +29,9 @@ impl Equivalent<Sample> for Sample {
 }
 
 impl Comparable<Sample> for Sample {
-    ghost own = { Prim.search rules };
+    ghost own = { λ _. refl };
 
-    ghost agree = { Prim.search rules };
+    ghost agree = { λ _ _. refl };
 
     fn compare(&self, key: &Sample) -> Ordering {
         match self.event.cmp(&key.event) {

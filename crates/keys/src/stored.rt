@@ -1,7 +1,6 @@
 // Keys as they are stored: four bytes, the high one first.
-ghost use Rattle.std.specs.Prelude.{◌≡◌, ℕ, List};
+ghost use Rattle.std.specs.Prelude.{◌≡◌, ℕ, List, refl};
 ghost use Rattle.keys.specs.Refusals.{IfFour};
-ghost use Rattle.std.proofs.Common.{rules};
 
 use crate::equivalent::{Comparable, Equivalent};
 use crate::refusal::Refusal;
@@ -54,7 +53,7 @@ impl<K: Comparable<K> + Spelled + Copy, B: Lends> Equivalent<K> for Stored<B> {
 
     ghost spells = { λ q. K.Spelled.of (B.Lends.four q.bytes) };
 
-    ghost lawful = { Prim.search rules };
+    ghost lawful = { K.Equivalent.lawful };
 
     fn equivalent(&self, key: &K) -> bool {
         K::read(self.bytes.four()).equivalent(key)
@@ -62,9 +61,9 @@ impl<K: Comparable<K> + Spelled + Copy, B: Lends> Equivalent<K> for Stored<B> {
 }
 
 impl<K: Comparable<K> + Spelled + Copy, B: Lends> Comparable<K> for Stored<B> {
-    ghost own = { Prim.search rules };
+    ghost own = { K.Comparable.own };
 
-    ghost agree = { Prim.search rules };
+    ghost agree = { λ _ _. refl };
 
     fn compare(&self, key: &K) -> Ordering {
         K::read(self.bytes.four()).compare(key)

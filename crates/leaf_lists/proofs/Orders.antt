@@ -3,7 +3,7 @@ use Rattle.std.proofs.Common.{◌≡◌, ℕ, zero, suc, ◌+◌, ◌<◌, ◌�
 use mathlib.Core.List.{Memᴰ}
 use mathlib.Core.Option.{none}
 use lib.Count.{ones}
-use Rattle.std.specs.List.{slice_get, AllByRecursion as All}
+use Rattle.std.specs.List.{slice_get, AllByRecursion}
 use Rattle.std.proofs.lemmas.Bool.{cond-false}
 use Rattle.keys.specs.Orders.{Order, Ordered, before, stands}
 use Rattle.keys.specs.Places.{same_place}
@@ -43,11 +43,11 @@ module _ {K V : Type 0} (O : Order K) (L : Ordered O) (a : Array) (slots : List 
   slot_of p l = nth_in slots p (omega (arith, live_in a p l))
 
   -- a slot of a lower rank is before all of the higher ones
-  above : (s : Slot K V) (p : ℕ) → slice_get slots p ≡ Some s → 0 < get_or rs p 0 → (r : ℕ) (ps : List ℕ) → get_or rs p 0 ≤ r → Rising rs r ps → All (λ e. O.way (placed O (entry_of s)) (placed O e) ≡ before) (entries_at ps slots)
+  above : (s : Slot K V) (p : ℕ) → slice_get slots p ≡ Some s → 0 < get_or rs p 0 → (r : ℕ) (ps : List ℕ) → get_or rs p 0 ≤ r → Rising rs r ps → AllByRecursion (λ e. O.way (placed O (entry_of s)) (placed O e) ≡ before) (entries_at ps slots)
   above s p e l r [] h up = tt
   above s p e l r (q ∷ qs) h up =
       let t = slot_of q (omega (arith, up.0)) in
-      subst (λ o. All (λ y. O.way (placed O (entry_of s)) (placed O y) ≡ before) (added o (entries_at qs slots))) (sym t.1)
+      subst (λ o. AllByRecursion (λ y. O.way (placed O (entry_of s)) (placed O y) ≡ before) (added o (entries_at qs slots))) (sym t.1)
       (so p q s t.0 e t.1 l (omega (arith, up.0)), above s p e l (get_or rs q 0) qs (omega (arith, up.0)) up.1)
 
   ascending_at : (r : ℕ) (ps : List ℕ) → Rising rs r ps → Ascending O (entries_at ps slots)

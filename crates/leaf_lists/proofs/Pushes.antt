@@ -1,7 +1,7 @@
 -- A key after all others, filed with the greatest rank.
 use Rattle.std.proofs.Common.{◌≡◌, ℕ, zero, suc, ◌+◌, ◌<◌, ◌≤◌, ◌≢◌, List, [], ◌∷◌, ◌++◌, length, get_or, set, Some, None, refl, ap, ◌∙◌, subst, ap₂, inl, inr, ⊎_elim, arith}
 use lib.Count.{ones}
-use Rattle.std.specs.List.{slice_get, AllByRecursion as All}
+use Rattle.std.specs.List.{slice_get, AllByRecursion}
 use Rattle.std.proofs.lemmas.List.{get_or-set_same, get_or-set_other}
 use Rattle.std.proofs.lemmas.Bool.{cases_eq}
 use Rattle.keys.specs.Orders.{Order, Ordered, before}
@@ -32,17 +32,17 @@ module _ {K V : Type 0} (rs : List ℕ) (slots : List (Slot K V)) where
       ap₂ (λ r o. onto r o (leaf_from rs' slots' (b + 1) m)) (h b (omega arith)) (k b (omega arith)) ∙ ap (onto (get_or rs (slot_pos b) 0) (slice_get slots (slot_pos b))) ih
 
   -- what holds of every live entry holds of a live slot
-  each : (P : Entry K V → Type 0) → length slots ≡ 15 → (b m i : ℕ) (s : Slot K V) → b + m ≤ 15 → b ≤ i → i < b + m → slice_get slots (slot_pos i) ≡ Some s → 0 < get_or rs (slot_pos i) 0 → All P (lives (leaf_from rs slots b m)) → P (entry_of s)
+  each : (P : Entry K V → Type 0) → length slots ≡ 15 → (b m i : ℕ) (s : Slot K V) → b + m ≤ 15 → b ≤ i → i < b + m → slice_get slots (slot_pos i) ≡ Some s → 0 < get_or rs (slot_pos i) 0 → AllByRecursion P (lives (leaf_from rs slots b m)) → P (entry_of s)
   each P n b zero i s h lo hi e l all = absurd (omega arith)
   each P n b (suc m) i s h lo hi e l all =
       let t = step rs slots n b m (omega arith) in
-      let later : b ≢ i → All P (lives (leaf_from rs slots (b + 1) m)) → P (entry_of s) = λ z. each P n (b + 1) m i s (omega arith) (omega arith) (omega arith) e l in
+      let later : b ≢ i → AllByRecursion P (lives (leaf_from rs slots (b + 1) m)) → P (entry_of s) = λ z. each P n (b + 1) m i s (omega arith) (omega arith) (omega arith) e l in
       ⊎_elim
       (λ (z : b ≡ i). elim t.mark [
         | inl d ↦ absurd (omega (arith, d.rank, ap (λ j. get_or rs (slot_pos j) 0) z))
-        | inr v ↦ let f = t.here in let g = ap (λ j. slice_get slots (slot_pos j)) z in let is : t.slot ≡ s = cc in subst (λ y. P (entry_of y)) is (subst (λ k. All P (lives k)) v.is all).0
+        | inr v ↦ let f = t.here in let g = ap (λ j. slice_get slots (slot_pos j)) z in let is : t.slot ≡ s = cc in subst (λ y. P (entry_of y)) is (subst (λ k. AllByRecursion P (lives k)) v.is all).0
       ])
-      (λ (z : b ≢ i). elim t.mark [ inl d ↦ later z (subst (λ k. All P (lives k)) d.is all) | inr v ↦ later z (subst (λ k. All P (lives k)) v.is all).1 ])
+      (λ (z : b ≢ i). elim t.mark [ inl d ↦ later z (subst (λ k. AllByRecursion P (lives k)) d.is all) | inr v ↦ later z (subst (λ k. AllByRecursion P (lives k)) v.is all).1 ])
       (cases_eq b i)
 
 module _ {K V : Type 0} (O : Order K) (L : Ordered O) (a : Array) (slots : List (Slot K V)) (n : length slots ≡ 15) (so : Sorted O (ranks_of a.metadata) slots) where
@@ -61,7 +61,7 @@ module _ {K V : Type 0} (O : Order K) (L : Ordered O) (a : Array) (slots : List 
   rank_f : u < 15 → get_or rs' f 0 ≡ u + 1
   rank_f room = get_or-set_same rs f (u + 1) 0 (omega (arith, slot_lt u room, length_digits 15 a.metadata))
 
-  effect_last : (x : K) → u < 15 → All (λ e. O.way (placed O e) (O.place x) ≡ before) (lives (leaf_of a slots)) → Effect (sides O x slots) rs' f
+  effect_last : (x : K) → u < 15 → AllByRecursion (λ e. O.way (placed O e) (O.place x) ≡ before) (lives (leaf_of a slots)) → Effect (sides O x slots) rs' f
   effect_last x room up = record {
     kept = λ p h ne l.
         let same = get_or-set_other rs f p (u + 1) 0 ne in
@@ -72,7 +72,7 @@ module _ {K V : Type 0} (O : Order K) (L : Ordered O) (a : Array) (slots : List 
         inl (side_at O slots n x p s.0 h s.1 ∙ ap side_of (L.flip _ _ b), omega (arith, rank_f room, (whole_out a.whole).bound p));
   }
 
-  pub push_of : (new : Slot K V) (a' : Array) (slots' : List (Slot K V)) → u < 15 → All (λ e. O.way (placed O e) (O.place new.key) ≡ before) (lives (leaf_of a slots)) → state_of a' ≡ pushed None (state_of a) → slots' ≡ set slots f new → Becomes O a' slots' (leaf_of a slots ++ live (entry_of new) ∷ [])
+  pub push_of : (new : Slot K V) (a' : Array) (slots' : List (Slot K V)) → u < 15 → AllByRecursion (λ e. O.way (placed O e) (O.place new.key) ≡ before) (lives (leaf_of a slots)) → state_of a' ≡ pushed None (state_of a) → slots' ≡ set slots f new → Becomes O a' slots' (leaf_of a slots ++ live (entry_of new) ∷ [])
   push_of new a' slots' room up st wr =
       let w = whole_out a.whole in
       let t = took_last rs u f (length_digits 15 a.metadata) (slot_lt u room) w.bound w.apart in

@@ -5,7 +5,7 @@
 use Rattle.std.specs.Prelude.{◌≡◌, ℕ, zero, suc, ◌+◌, ◌<◌, cond, not, ◌&&◌, List, [], ◌∷◌, ◌++◌, length, Some, None, Option, ◌==◌, nat_eq, slice_index, slice_set}
 use Rattle.std.proofs.Math.Option as lists
 use Rattle.std.proofs.Math.Option.{some, none}
-use Rattle.std.specs.List.{slice_get, AllByRecursion as All}
+use Rattle.std.specs.List.{slice_get, AllByRecursion}
 use Rattle.keys.specs.Orders.{Order, before}
 use Rattle.ranks.specs.Boundaries.{by_use, live_count, rises}
 use Rattle.ranks.specs.Dimensions.{leaf_length, slot_pos}
@@ -78,7 +78,7 @@ pub record Agrees {K V : Type 0} (O : Order K) (a : Array) (slots : List (Slot K
   -- a filing appends
   pub file : (new : Slot K V) (a' : Array) (slots' : List (Slot K V)) → (state_of a).uses < leaf_length → state_of a' ≡ filed (sides O new.key slots) (state_of a) → slots' ≡ slice_set slots (slot_pos (state_of a).uses) new → Becomes O a' slots' (append O (entry_of new) (leaf_of a slots))
   -- a filing with the greatest rank appends a key that is after all the live ones
-  pub push : (new : Slot K V) (a' : Array) (slots' : List (Slot K V)) → (state_of a).uses < leaf_length → All (λ e. O.way (placed O e) (O.place new.key) ≡ before) (lives (leaf_of a slots)) → state_of a' ≡ pushed None (state_of a) → slots' ≡ slice_set slots (slot_pos (state_of a).uses) new → Becomes O a' slots' (leaf_of a slots ++ live (entry_of new) ∷ [])
+  pub push : (new : Slot K V) (a' : Array) (slots' : List (Slot K V)) → (state_of a).uses < leaf_length → AllByRecursion (λ e. O.way (placed O e) (O.place new.key) ≡ before) (lives (leaf_of a slots)) → state_of a' ≡ pushed None (state_of a) → slots' ≡ slice_set slots (slot_pos (state_of a).uses) new → Becomes O a' slots' (leaf_of a slots ++ live (entry_of new) ∷ [])
   -- a strike of the live slot at a place kills it
   pub strike : (x : K) (p : ℕ) (a' : Array) → holder (state_of a).ranks (sides O x slots) ≡ Some p → state_of a' ≡ struck p (state_of a) → Becomes O a' slots (kill O (O.place x) (leaf_of a slots))
   -- ranks rise in order of use as often as the live entries do, once less than a leaf has slots exactly if all of them are live and ascend

@@ -3,7 +3,7 @@
 use Rattle.std.proofs.Common.{◌≡◌, ℕ, suc, ◌≤◌, Bool, true, false, cond, ◌∷◌, length, refl, ap, inl, inr, arith}
 use mathlib.Core.List.Memᴰ
 use mathlib.Core.Option.{Option, some, none}
-use Rattle.std.specs.List.{AllByRecursion as All}
+use Rattle.std.specs.List.{AllByRecursion}
 use Rattle.std.proofs.ByRecursion.{All-weaker}
 use Rattle.std.proofs.lemmas.Bool.{cases_Bool, not-false}
 use Rattle.keys.specs.Orders.{Order, Ordered, before, within}
@@ -36,7 +36,7 @@ module _ {K A : Type 0} (O : Order K) where
 module _ {K V : Type 0} (O : Order K) where
   -- each bound of the row is after p
   abbrev PastAll : O.Place → Row K (Leaf K V) → Type 0
-  PastAll p r = All (λ c. O.way p (O.place c) ≡ before) (bounds r)
+  PastAll p r = AllByRecursion (λ c. O.way p (O.place c) ≡ before) (bounds r)
 
 module _ {K V : Type 0} (O : Order K) (L : Ordered O) where
   past_all : (p q : O.Place) (r : Row K (Leaf K V)) → O.way p q ≡ before → PastAll O q r → PastAll O p r

@@ -7,7 +7,7 @@
 use Rattle.std.proofs.Common.{◌≡◌, ℕ, suc, ◌+◌, ◌-◌, ◌*◌, ◌<◌, ◌≤◌, Bool, true, false, cond, not, ◌&&◌, eqb, ltb, leb, ◌⊎◌, List, [], ◌∷◌, ◌++◌, length, take, refl, ap, ◌∙◌, inl, inr, arith, length-append, length-drop, length-take}
 use mathlib.Core.Option.{some, none}
 use lib.ListN.{length-map}
-use Rattle.std.specs.List.{AllByRecursion as All}
+use Rattle.std.specs.List.{AllByRecursion}
 use Rattle.std.proofs.lemmas.Bool.Decides.{nat_tests}
 use Rattle.std.proofs.lemmas.Bool.{ltb-true, leb-true, leb-false, and_parts, not-false}
 use Rattle.keys.specs.declared.refusal.Refusal.TheVariants.{Duplicate, Full, NotStruck}
@@ -105,7 +105,7 @@ row_saved (edge l) = saved l
 row_saved (child b l r) = saved l + row_saved r
 
 abbrev Small : {K V : Type 0} → Row K (Leaf K V) → Type 0
-Small r = All (λ l. length l ≤ leaf_length) (leaves r)
+Small r = AllByRecursion (λ l. length l ≤ leaf_length) (leaves r)
 
 abbrev node_saved : {K V : Type 0} → Node K V → ℕ
 node_saved gone = 0

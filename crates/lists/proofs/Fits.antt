@@ -1,7 +1,7 @@
 -- What a filing makes of its target: what stands at each place, and where the bound lies.
 use Rattle.std.proofs.Common.{◌≡◌, ℕ, ◌+◌, ◌-◌, ◌<◌, Bool, true, false, cond, not, ◌&&◌, eqb, ltb, leb, List, [], ◌∷◌, ◌++◌, map, length, take, drop, sym, refl, ap, ◌∙◌, subst, arith, length-drop, take-append-drop, length-take}
 use mathlib.Core.Option.{Option, some, none}
-use Rattle.std.specs.List.{AllByRecursion as All}
+use Rattle.std.specs.List.{AllByRecursion}
 use Rattle.std.proofs.lemmas.Bool.{and_parts, leb-false, not-false, not-true}
 use Rattle.keys.specs.Orders.{Order, Ordered, before, precedes, meets, within}
 use Rattle.keys.specs.Places.{same_place}
@@ -34,7 +34,7 @@ module _ {K V : Type 0} (O : Order K) (L : Ordered O) where
       let ih = low_none x xs ys p up.1 h in
       grind arith
 
-  past_none : (b p : O.Place) (ys : List (Entry K V)) → All (λ z. O.way b (placed O z) ≡ before) ys → precedes O b p ≡ false → lookup O p ys ≡ none
+  past_none : (b p : O.Place) (ys : List (Entry K V)) → AllByRecursion (λ z. O.way b (placed O z) ≡ before) ys → precedes O b p ≡ false → lookup O p ys ≡ none
   past_none b p [] a h = refl
   past_none b p (y ∷ ys) a h =
       let w = a.0 in
@@ -97,7 +97,7 @@ module _ {K V : Type 0} (O : Order K) (L : Ordered O) where
   up_right [] ys up = up
   up_right (x ∷ xs) ys up = up_right xs ys up.1
 
-  all_left : (Q : Entry K V → Type 0) (xs ys : List (Entry K V)) → All Q (xs ++ ys) → All Q xs
+  all_left : (Q : Entry K V → Type 0) (xs ys : List (Entry K V)) → AllByRecursion Q (xs ++ ys) → AllByRecursion Q xs
   all_left Q [] ys a = tt
   all_left Q (x ∷ xs) ys a = (a.0, all_left Q xs ys a.1)
 

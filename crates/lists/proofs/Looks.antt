@@ -2,7 +2,7 @@
 use Rattle.std.proofs.Common.{◌≡◌, ◌+◌, true, false, cond, List, [], ◌∷◌, ◌++◌, map, sym, refl, ap, ◌∙◌, subst, inl, inr, arith}
 use mathlib.Core.List.{Memᴰ}
 use mathlib.Core.Option.{Option, some, none}
-use Rattle.std.specs.List.{AllByRecursion as All}
+use Rattle.std.specs.List.{AllByRecursion}
 use Rattle.std.proofs.lemmas.Bool.{and_parts, cases_Bool, not-false}
 use Rattle.keys.specs.Orders.{Order, Ordered, Way, before, same, after, is_before, is_same, precedes, meets, within}
 use Rattle.keys.specs.Places.{ways, same_place}
@@ -119,12 +119,12 @@ module _ {K V : Type 0} (O : Order K) (L : Ordered O) where
       subst Apart (sym (lives_join (kill O (placed O e) l) (live e ∷ []))) (apart_push e (lives (kill O (placed O e) l)) (grind arith) (apart_kill (placed O e) l a))
 
   -- a sorted list of entries apart ascends
-  all_insert : (Q : Entry K V → Type 0) (e : Entry K V) (es : List (Entry K V)) → Q e → All Q es → All Q (insert O e es)
+  all_insert : (Q : Entry K V → Type 0) (e : Entry K V) (es : List (Entry K V)) → Q e → AllByRecursion Q es → AllByRecursion Q (insert O e es)
   all_insert Q e [] q a = (q, tt)
   all_insert Q e (x ∷ xs) q a =
-      elim (precedes O (placed O x) (placed O e)) as (λ b. All Q (cond b (x ∷ insert O e xs) (e ∷ x ∷ xs))) [ true ↦ (a.0, all_insert Q e xs q a.1) | false ↦ (q, a) ]
+      elim (precedes O (placed O x) (placed O e)) as (λ b. AllByRecursion Q (cond b (x ∷ insert O e xs) (e ∷ x ∷ xs))) [ true ↦ (a.0, all_insert Q e xs q a.1) | false ↦ (q, a) ]
 
-  pub all_after : (x y : Entry K V) (es : List (Entry K V)) → O.way (placed O x) (placed O y) ≡ before → All (λ z. O.way (placed O y) (placed O z) ≡ before) es → All (λ z. O.way (placed O x) (placed O z) ≡ before) es
+  pub all_after : (x y : Entry K V) (es : List (Entry K V)) → O.way (placed O x) (placed O y) ≡ before → AllByRecursion (λ z. O.way (placed O y) (placed O z) ≡ before) es → AllByRecursion (λ z. O.way (placed O x) (placed O z) ≡ before) es
   all_after x y [] h a = tt
   all_after x y (z ∷ zs) h a = (L.through (placed O x) (placed O y) (placed O z) h a.0, all_after x y zs h a.1)
 
@@ -145,7 +145,7 @@ module _ {K V : Type 0} (O : Order K) (L : Ordered O) where
   up_sorted (e ∷ es) a = up_insert e (sorted O es) (look_sorted (placed O e) es ∙ a.0) (up_sorted es a.1)
 
   -- the other way round
-  pub all_apart : (p : O.Place) (es : List (Entry K V)) → All (λ z. O.way p (placed O z) ≡ before) es → lookup O p es ≡ none
+  pub all_apart : (p : O.Place) (es : List (Entry K V)) → AllByRecursion (λ z. O.way p (placed O z) ≡ before) es → lookup O p es ≡ none
   all_apart p [] a = refl
   all_apart p (z ∷ zs) a = let w = a.0 in let ih = all_apart p zs a.1 in grind arith
 
@@ -163,7 +163,7 @@ module _ {K V : Type 0} (O : Order K) (L : Ordered O) where
       ((w, all_after x y ys w up.0), up)
 
   -- what is met is what stands
-  all_member : (Q : Entry K V → Type 0) {e : Entry K V} {es : List (Entry K V)} → Memᴰ e es → All Q es → Q e
+  all_member : (Q : Entry K V → Type 0) {e : Entry K V} {es : List (Entry K V)} → Memᴰ e es → AllByRecursion Q es → Q e
   all_member Q (Memᴰ.head q) a = subst Q (sym q) a.0
   all_member Q (Memᴰ.tail m) a = all_member Q m a.1
 

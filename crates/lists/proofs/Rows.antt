@@ -1,7 +1,7 @@
 -- The rows of a node: where each place stands, what a change of the target does, and the full walks.
 use Rattle.std.proofs.Common.{◌≡◌, ℕ, true, false, cond, List, [], ◌∷◌, ◌++◌, map, reverse, sym, refl, ap, ◌∙◌, arith}
 use mathlib.Core.Option.{Option, some, none}
-use Rattle.std.specs.List.{AllByRecursion as All}
+use Rattle.std.specs.List.{AllByRecursion}
 use Rattle.std.proofs.lemmas.List.{append-nil}
 use Rattle.std.proofs.ByRecursion.{All-append}
 use Rattle.std.proofs.lemmas.Bool.{cases_Bool}
@@ -62,12 +62,12 @@ module _ {K V : Type 0} (O : Order K) (L : Ordered O) where
       grind arith
 
   -- what holds of each place that stands holds of each entry
-  all_look : (Q : O.Place → Type 0) (es : List (Entry K V)) → ((p : O.Place) → (lookup O p es ≡ none → ⊥) → Q p) → All (λ e. Q (placed O e)) es
+  all_look : (Q : O.Place → Type 0) (es : List (Entry K V)) → ((p : O.Place) → (lookup O p es ≡ none → ⊥) → Q p) → AllByRecursion (λ e. Q (placed O e)) es
   all_look Q [] f = tt
   all_look Q (x ∷ xs) f =
       (f (placed O x) (λ h. let s = meets_self O L (placed O x) in grind arith), all_look Q xs (λ p n. f p (λ h. n (grind arith))))
 
-  up_join : (xs ys : List (Entry K V)) → Ascending O xs → Ascending O ys → All (λ x. All (λ y. O.way (placed O x) (placed O y) ≡ before) ys) xs → Ascending O (xs ++ ys)
+  up_join : (xs ys : List (Entry K V)) → Ascending O xs → Ascending O ys → AllByRecursion (λ x. AllByRecursion (λ y. O.way (placed O x) (placed O y) ≡ before) ys) xs → Ascending O (xs ++ ys)
   up_join [] ys u v c = v
   up_join (x ∷ xs) ys u v c = (All-append _ xs ys u.0 c.0, up_join xs ys u.1 v c.1)
 
@@ -75,7 +75,7 @@ module _ {K V : Type 0} (O : Order K) (L : Ordered O) where
   up_forth (edge l) g = up_sorted O L (lives l) g
   up_forth (child b l r) g =
       up_join (ordered O l) (row_forth r) (up_sorted O L (lives l) g.0.leafy.apart) (up_forth r g.1)
-      (all_look (λ p. All (λ y. O.way p (placed O y) ≡ before) (row_forth r)) (ordered O l)
+      (all_look (λ p. AllByRecursion (λ y. O.way p (placed O y) ≡ before) (row_forth r)) (ordered O l)
       (λ p n. all_look (λ q. O.way p q ≡ before) (row_forth r)
       (λ q m. across O L b p q
       (let u = g.0.under p in let s = look_sorted O L p (lives l) in let c = cases_Bool (within O b p) in grind arith)

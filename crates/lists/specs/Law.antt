@@ -2,7 +2,7 @@
 use Rattle.std.specs.Prelude.{◌≡◌, ℕ, ◌+◌, ◌*◌, ◌≤◌, Bool, true, false, ◌⊎◌, ◌↔◌, List, [], ◌∷◌, reverse, length}
 use mathlib.Core.List.{Memᴰ}
 use Rattle.std.proofs.Math.Option.{Option, some, none}
-use Rattle.std.specs.List.{AllByRecursion as All}
+use Rattle.std.specs.List.{AllByRecursion}
 use Rattle.keys.specs.declared.refusal.Refusal.TheVariants.{Duplicate, Full, NotFound}
 use Rattle.keys.specs.Orders.{Order}
 use Rattle.ranks.specs.Dimensions.{leaf_length}
@@ -68,7 +68,7 @@ module _ {K V : Type 0} (O : Order K) where
     pub fewer : length (bounds r) ≤ used
     pub few : used ≤ child_places
     -- no leaf has more slots than it can
-    pub small : All (λ l. length l ≤ leaf_length) (leaves r)
+    pub small : AllByRecursion (λ l. length l ≤ leaf_length) (leaves r)
 
   abbrev pub InOrder : Node K V → Type 0
   InOrder gone = Unit {0}

@@ -1,7 +1,7 @@
 -- A leaf: its slots in order of use, each live or dead, with its entries in order of key and what one more entry makes of it.
 use Rattle.std.specs.Prelude.{◌≡◌, ℕ, ◌+◌, Bool, true, false, cond, not, ◌&&◌, List, [], ◌∷◌, ◌++◌}
 use Rattle.std.proofs.Math.Option.{Option, some, none}
-use Rattle.std.specs.List.{AllByRecursion as All}
+use Rattle.std.specs.List.{AllByRecursion}
 use Rattle.keys.specs.Orders.{Order, before, precedes, meets}
 
 pub record Entry (K V : Type 0) : Type 0 where
@@ -52,7 +52,7 @@ module _ {K V : Type 0} (O : Order K) where
   -- strictly ascending
   abbrev pub Ascending : List (Entry K V) → Type 0
   Ascending [] = Unit {0}
-  Ascending (x ∷ xs) = All (λ y. O.way (placed x) (placed y) ≡ before) xs × Ascending xs
+  Ascending (x ∷ xs) = AllByRecursion (λ y. O.way (placed x) (placed y) ≡ before) xs × Ascending xs
 
   -- a new entry goes before the first entry that does not precede it
   abbrev pub insert : Entry K V → List (Entry K V) → List (Entry K V)

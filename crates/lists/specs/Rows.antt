@@ -1,7 +1,7 @@
 -- A row of leaves of any kind, bounded children in order of bound and last the unbounded leaf: the target of a place, and what becomes of it.
 use Rattle.std.specs.Prelude.{◌≡◌, ℕ, Bool, true, false, cond, ◌⊎◌, List, [], ◌∷◌}
 use mathlib.Core.List.{Memᴰ}
-use Rattle.std.specs.List.{AllByRecursion as All}
+use Rattle.std.specs.List.{AllByRecursion}
 use Rattle.keys.specs.Orders.{Order, before, within}
 
 pub data Row (K L : Type 0) : Type 0 where
@@ -74,7 +74,7 @@ module _ {K : Type 0} (O : Order K) where
   -- the bounds ascend strictly
   abbrev pub Rising : List K → Type 0
   Rising [] = Unit {0}
-  Rising (b ∷ bs) = All (λ c. O.way (O.place b) (O.place c) ≡ before) bs × Rising bs
+  Rising (b ∷ bs) = AllByRecursion (λ c. O.way (O.place b) (O.place c) ≡ before) bs × Rising bs
 
 module _ {K L : Type 0} (O : Order K) where
   -- l is the leaf of a child whose bound is the least of those not before p
@@ -82,8 +82,8 @@ module _ {K L : Type 0} (O : Order K) where
     pub bound : K
     pub stands : Memᴰ (bound, l) (children r)
     pub fits : within O bound p ≡ true
-    pub least : All (λ c. within O c p ≡ true → (c ≡ bound) ⊎ (O.way (O.place bound) (O.place c) ≡ before)) (bounds r)
+    pub least : AllByRecursion (λ c. within O c p ≡ true → (c ≡ bound) ⊎ (O.way (O.place bound) (O.place c) ≡ before)) (bounds r)
 
   -- l is the leaf of the child with the least bound not before p, or the unbounded leaf if every bound is before p
   abbrev pub Targets : O.Place → Row K L → L → Type 0
-  Targets p r l = Least p r l ⊎ (All (λ c. within O c p ≡ false) (bounds r) × (l ≡ unbounded r))
+  Targets p r l = Least p r l ⊎ (AllByRecursion (λ c. within O c p ≡ false) (bounds r) × (l ≡ unbounded r))
