@@ -57,7 +57,7 @@ empty_length [] = refl
 empty_length (x ∷ xs) = grind (arith, nat_tests)
 
 -- no rank is live, or some is
-empty_cases : (rs : List ℕ) → ((is_empty rs ≡ true) × ((p : ℕ) → get_or rs p 0 ≡ 0)) ⊎ ((is_empty rs ≡ false) × ((p : ℕ) × (0 < get_or rs p 0)))
+pub empty_cases : (rs : List ℕ) → ((is_empty rs ≡ true) × ((p : ℕ) → get_or rs p 0 ≡ 0)) ⊎ ((is_empty rs ≡ false) × ((p : ℕ) × (0 < get_or rs p 0)))
 empty_cases [] = inl (refl, λ p. refl)
 empty_cases (r ∷ rs) = ⊎_elim
     (λ l. inr (grind (arith, nat_tests), (0, l)))

@@ -11,11 +11,11 @@ use Rattle.leaf.proofs.Effects.{Took, Effect, took_new, took_moved, effect_moved
 use Rattle.leaf.proofs.Sides.{Arranged}
 use Rattle.leaf_lists.proofs.Looks.{Held}
 
-record Greatest (rs ss : List ℕ) (low : ℕ) : Type 0 where
-  most : (p : ℕ) → p < length ss → get_or ss p 0 ≡ 0 → get_or rs p 0 ≤ low
-  some : (low ≡ 0) ⊎ ((p : ℕ) × (p < length ss) × (get_or ss p 0 ≡ 0) × (get_or rs p 0 ≡ low))
+pub record Greatest (rs ss : List ℕ) (low : ℕ) : Type 0 where
+  pub most : (p : ℕ) → p < length ss → get_or ss p 0 ≡ 0 → get_or rs p 0 ≤ low
+  pub some : (low ≡ 0) ⊎ ((p : ℕ) × (p < length ss) × (get_or ss p 0 ≡ 0) × (get_or rs p 0 ≡ low))
 
-greatest : (rs ss : List ℕ) → Greatest rs ss (floor rs ss)
+pub greatest : (rs ss : List ℕ) → Greatest rs ss (floor rs ss)
 greatest [] ss = record { most = λ p h e. omega arith; some = inl refl }
 greatest (r ∷ rs) [] = record { most = λ p h e. absurd (omega arith); some = inl refl }
 greatest (r ∷ rs) (s ∷ ss) =
@@ -41,13 +41,9 @@ greatest (r ∷ rs) (s ∷ ss) =
     most_of r s rs ss m h zero l e = grind (arith, nat_tests)
     most_of r s rs ss m h (suc p) l e = let k = h p (omega arith) e in grind (arith, nat_tests)
 
-module _ (rs ss : List ℕ) (nr : length rs ≡ 15) (ns : length ss ≡ 15) (ord : Arranged rs ss) (inside : (p : ℕ) → 0 < get_or rs p 0 → p < 15) (f : ℕ) (hf : f < 15) where
-  pub took_filed : (o : Option ℕ) → Held rs ss o → (u : ℕ) → ((p : ℕ) → get_or rs p 0 ≤ u) → Took rs (taken_from o rs (floor rs ss) f) u f
-  took_filed None h u b = took_new rs nr (floor rs ss) f hf u (elim (greatest rs ss).some [ inl z ↦ omega arith | inr q ↦ omega (arith, b q.0, q.3) ]) b ord.apart
-  took_filed (Some o) h u b = took_moved rs nr o f (inside o h.0) h.0 hf u b ord.apart
-
+module _ (rs ss : List ℕ) (nr : length rs ≡ 15) (ns : length ss ≡ 15) (ord : Arranged rs ss) (inside : (p : ℕ) → 0 < get_or rs p 0 → p < 15) where
   -- a live rank up to the greatest before the key is before it
-  below : (p : ℕ) → 0 < get_or rs p 0 → get_or rs p 0 ≤ floor rs ss → get_or ss p 0 ≡ 0
+  pub below : (p : ℕ) → 0 < get_or rs p 0 → get_or rs p 0 ≤ floor rs ss → get_or ss p 0 ≡ 0
   below p l h = elim (greatest rs ss).some [
     | inl z ↦ absurd (omega arith)
     | inr q ↦ ⊎_elim
@@ -56,15 +52,20 @@ module _ (rs ss : List ℕ) (nr : length rs ≡ 15) (ns : length ss ≡ 15) (ord
         (cases_eq (get_or rs p 0) (floor rs ss))
   ]
 
-  pub effect_filed : (o : Option ℕ) → Held rs ss o → Effect ss (taken_from o rs (floor rs ss) f) f
-  effect_filed None h = record {
-    kept = λ p hp n l.
-        let low = floor rs ss in
-        let e = get_or-set_other (lifted low rs) f p (low + 1) 0 n ∙ get_or_lifted low rs p in
-        let k = get_or-set_same (lifted low rs) f (low + 1) 0 (omega (arith, length_lifted low rs)) in
-        ⊎_elim
-        (λ up. inr (⊎_elim (λ z. absurd (omega (arith, (greatest rs ss).most p (omega arith) z))) (λ z. ⊎_elim (λ one. absurd (h p (omega arith, one))) (λ w. omega arith) (cases_eq (get_or ss p 0) 1)) (cases_eq (get_or ss p 0) 0), omega (arith, lift_up low (get_or rs p 0) up)))
-        (λ up. let z = lift_flat low (get_or rs p 0) up in inl (below p (omega arith) up, omega arith))
-        (cases_lt low (get_or rs p 0));
-  }
-  effect_filed (Some o) h = effect_moved rs nr o f (inside o h.0) h.0 hf ss ord h.1
+  module _ (f : ℕ) (hf : f < 15) where
+    pub took_filed : (o : Option ℕ) → Held rs ss o → (u : ℕ) → ((p : ℕ) → get_or rs p 0 ≤ u) → Took rs (taken_from o rs (floor rs ss) f) u f
+    took_filed None h u b = took_new rs nr (floor rs ss) f hf u (elim (greatest rs ss).some [ inl z ↦ omega arith | inr q ↦ omega (arith, b q.0, q.3) ]) b ord.apart
+    took_filed (Some o) h u b = took_moved rs nr o f (inside o h.0) h.0 hf u b ord.apart
+
+    pub effect_filed : (o : Option ℕ) → Held rs ss o → Effect ss (taken_from o rs (floor rs ss) f) f
+    effect_filed None h = record {
+      kept = λ p hp n l.
+          let low = floor rs ss in
+          let e = get_or-set_other (lifted low rs) f p (low + 1) 0 n ∙ get_or_lifted low rs p in
+          let k = get_or-set_same (lifted low rs) f (low + 1) 0 (omega (arith, length_lifted low rs)) in
+          ⊎_elim
+          (λ up. inr (⊎_elim (λ z. absurd (omega (arith, (greatest rs ss).most p (omega arith) z))) (λ z. ⊎_elim (λ one. absurd (h p (omega arith, one))) (λ w. omega arith) (cases_eq (get_or ss p 0) 1)) (cases_eq (get_or ss p 0) 0), omega (arith, lift_up low (get_or rs p 0) up)))
+          (λ up. let z = lift_flat low (get_or rs p 0) up in inl (below p (omega arith) up, omega arith))
+          (cases_lt low (get_or rs p 0));
+    }
+    effect_filed (Some o) h = effect_moved rs nr o f (inside o h.0) h.0 hf ss ord h.1

@@ -1,7 +1,7 @@
 pub mod Uses
 pub mod Counts
 pub mod Looks
-mod Floors
+pub mod Floors
 pub mod Changes
 pub mod Orders
 pub mod Pushes

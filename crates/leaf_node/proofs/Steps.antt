@@ -9,7 +9,7 @@ use Rattle.ranks.specs.Words.{ranks_of, is_retired}
 use Rattle.ranks.proofs.Words.{length_digits, digits_lt}
 use Rattle.lists.specs.Leaves.{Entry, Leaf, lives, lookup, append}
 use Rattle.lists.specs.Rows.{Row, one, target, changed}
-use Rattle.lists.specs.Nodes.{Done, gone, sheet, filed, refusing, filing, unless_held, replace}
+use Rattle.lists.specs.Nodes.{Done, sheet, filed, refusing, filing, unless_held, replace}
 use Rattle.leaf.specs.Calls.{Inserted}
 use Rattle.leaf.specs.Rules.{state_of}
 use Rattle.leaf.specs.Slots.{side_of, sides, Sorted}

@@ -5,7 +5,7 @@ pub mod Same
 mod Costs
 mod Walks
 mod Fits
-mod Rows
+pub mod Rows
 mod Steps
 mod Bounds
 pub mod Laws

@@ -1,5 +1,5 @@
 -- A full walk meets the entries of all leaves, in order, and each move gives one of them or none.
-use Rattle.std.proofs.Common.{◌≡◌, ℕ, zero, suc, ◌+◌, ◌<◌, List, [], ◌∷◌, ◌++◌, map, reverse, length, drop, sym, refl, ap, ◌∙◌, subst, inl, inr, append_assoc, arith}
+use Rattle.std.proofs.Common.{◌≡◌, ℕ, zero, suc, ◌<◌, List, [], ◌∷◌, ◌++◌, map, reverse, length, drop, sym, refl, ap, ◌∙◌, subst, inl, inr, append_assoc, arith}
 use mathlib.Core.List.Memᴰ
 use mathlib.Core.List.{reverse-append, Memᴰ}
 use Rattle.std.proofs.lemmas.List.{append-nil}

@@ -5,7 +5,7 @@ use native.Mathlib.Bridge.{le_prop}
 use base.Stored.{Coded-set, coded_ℕ}
 use Rattle.std.proofs.lemmas.List.{length-set, get_or-set_same, get_or-set_other, get_or_past, reverse-append}
 use Rattle.std.proofs.lemmas.Bool.{cases_eq, cases_lt, cond-true, cond-false, eq-eqb, ne_eqb}
-use Rattle.ranks.specs.Indexes.{no_slot, Indexed, Cursor, kept, up_from, down_from, ahead, behind, given, first, rest, Gives, Rising, InOrder, Apart}
+use Rattle.ranks.specs.Indexes.{no_slot, Indexed, Cursor, kept, up_from, down_from, ahead, behind, first, rest, Gives, Rising, InOrder, Apart}
 
 pub cursor_out : {ix : List ℕ} → ∥ Cursor ix ∥₁ → Cursor ix
 cursor_out t = record {

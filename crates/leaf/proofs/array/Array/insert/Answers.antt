@@ -2,7 +2,7 @@ use Rattle.std.proofs.Common.{◌≡◌, true, false, ◌⊎◌, get_or, set, sy
 use Rattle.ranks.specs.Dimensions.{slot_pos}
 use Rattle.leaf.specs.Rules.{state_of}
 use Rattle.leaf.specs.Slots.{sides, Sorted}
-use Rattle.leaf.specs.Seeks.{there, Inside, taken}
+use Rattle.leaf.specs.Seeks.{there, Inside}
 use Rattle.leaf.specs.Calls.{Filled}
 use Rattle.leaf.specs.declared.data_block.Slot.{Slot}
 use Rattle.leaf.proofs.Wholes.{whole_out}
