@@ -4,7 +4,7 @@
 // closure that decides is a function that answers a plan.
 ghost use Rattle.std.specs.Prelude.{◌≡◌};
 ghost use Rattle.leaf.specs.Rules.{state_of};
-ghost use Rattle.leaf_node.specs.Plans.{planned, Held};
+ghost use Rattle.leaf_table.specs.Plans.{planned, Held};
 
 use leaf::array::Array;
 use leaf::exit_guard::FreezeGuard;

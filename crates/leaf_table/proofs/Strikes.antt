@@ -15,13 +15,14 @@ use Rattle.leaf.specs.declared.data_block.Slot.{Slot}
 use Rattle.leaf.specs.declared.result.RemoveResult.{RemoveResult}
 use Rattle.leaf.specs.declared.result.RemoveResult.TheVariants as remove
 use Rattle.leaf.proofs.Wholes.{whole_out}
-use Rattle.leaf_lists.specs.Ranked.{cleared}
-use Rattle.leaf_lists.specs.Stands.{entry_of, leaf_of, ranked_of, found_in}
+use Rattle.ranked_leaves.specs.Ranked.{cleared}
+use Rattle.leaf_lists.specs.Stands.{entry_of, leaf_of, found_in}
+use Rattle.ranked_leaves.specs.RanksStand.{ranked_of}
 use Rattle.leaf_lists.proofs.Bridge.{bridge}
 use Rattle.leaf_lists.proofs.Looks.{Held, held}
 use Rattle.leaf_table.specs.Records.{Marked}
 use Rattle.leaf_table.specs.Changes as table
-use Rattle.leaf_lists.proofs.Changes.{ranked-strike}
+use Rattle.ranked_leaves.proofs.Changes.{ranked_strike}
 use Rattle.leaf_table.proofs.Leaves.{some_live}
 
 -- ---- marks
@@ -79,7 +80,7 @@ module _ {K V C : Type 0} (O : Order K) (verdict : C → V → Bool) (after : C 
     off p s r h f v l st e =
         let b = ((bridge O L).agrees a bs len so).strike x p a' h st in
         let last = ((bridge {V = V} O L).counts a' bs len).none ∙ ap (λ z. is_empty z.ranks) st in
-        by r (is_empty (set (state_of a).ranks p 0)) (struck p (state_of a)).flags (struck_flags (state_of a) p mark l) e (record { entry = entry_of s; held = f; said = v; ranks = ranked-strike O L a bs len so x p a' h st; sorted = b.sorted; spent = last })
+        by r (is_empty (set (state_of a).ranks p 0)) (struck p (state_of a)).flags (struck_flags (state_of a) p mark l) e (record { entry = entry_of s; held = f; said = v; ranks = ranked_strike O L a bs len so x p a' h st; sorted = b.sorted; spent = last })
       where
         by : (r : RemoveResult) (t : Bool) (f : ℕ) → f ≡ cond t 4 0 → r ≡ cond (eqb f 4) remove.Retired remove.Success → Off t → Striking r
         by r true f z e o = subst Striking (sym (e ∙ ap (λ k. cond (eqb k 4) remove.Retired remove.Success) z)) o

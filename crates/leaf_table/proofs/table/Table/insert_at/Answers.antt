@@ -1,4 +1,4 @@
-use Rattle.std.proofs.Common.{get_or, sym, refl, ap, ◌∙◌, subst, arith}
+use Rattle.std.proofs.Common.{get_or, refl, ◌∙◌, arith}
 use Rattle.std.proofs.lemmas.List.{length-set}
 use Rattle.leaf.specs.declared.data_block.Slot.{Slot}
 use Rattle.leaf_table.proofs.Sounds.{sound_out, state_read, marked_put}

@@ -5,7 +5,7 @@ use Rattle.std.proofs.lemmas.Bool.{cases_eq, cases_lt, ne_eqb, eq-eqb, cond-true
 use Rattle.keys.specs.Orders.{Order, Ordered, is_before, stands, within}
 use Rattle.keys.specs.Places.{ways}
 use Rattle.ranks.specs.Indexes.{Apart}
-use Rattle.lists.specs.Rows.{Row, edge, child, target, at_edge, changed, one}
+use Rattle.lists.specs.Rows.{Row, edge, target, at_edge, changed, one}
 use Rattle.leaf.specs.Slots.{side_of, side, sides}
 use Rattle.leaf.specs.declared.data_block.Slot.{Slot}
 use Rattle.leaf.proofs.Sides.{side_at}

@@ -15,7 +15,7 @@ use Rattle.leaf.specs.declared.result.InsertResult.{InsertResult}
 use Rattle.leaf.specs.declared.result.InsertResult.TheVariants as insert
 use Rattle.leaf.specs.declared.result.RemoveResult.{RemoveResult}
 use Rattle.leaf.specs.declared.result.RemoveResult.TheVariants as remove
-use Rattle.leaf_lists.specs.Ranked.{cleared, taken}
+use Rattle.ranked_leaves.specs.Ranked.{cleared, taken}
 use Rattle.leaf_table.specs.States.{part, state_at, slots_at, leaf_at, ranked_at}
 use Rattle.leaf_table.specs.declared.table.Table.{Table}
 

@@ -1,6 +1,5 @@
 -- A step in the leaf of one place.
 use Rattle.std.proofs.Common.{◌≡◌, ℕ, ◌<◌, ◌≤◌, Bool, true, false, ◌≢◌, List, length, get_or, set, sym, ap, ◌∙◌, subst, inl, inr, arith}
-use mathlib.Core.Option.{none}
 use Rattle.keys.specs.Orders.{Order, Ordered}
 use Rattle.lists.specs.Leaves.{lives, spent, lookup}
 use Rattle.leaf.specs.Calls.{Inserted, Removed}
@@ -12,8 +11,9 @@ use Rattle.leaf.specs.declared.result.InsertResult.{InsertResult}
 use Rattle.leaf.specs.declared.result.InsertResult.TheVariants as insert
 use Rattle.leaf.specs.declared.result.RemoveResult.{RemoveResult}
 use Rattle.leaf.specs.declared.result.RemoveResult.TheVariants as remove
-use Rattle.leaf_lists.specs.Ranked.{cleared, taken}
-use Rattle.leaf_lists.specs.Stands.{entry_of, leaf_in, leaf_of, ranked_in, ranked_of}
+use Rattle.ranked_leaves.specs.Ranked.{cleared, taken}
+use Rattle.leaf_lists.specs.Stands.{entry_of, leaf_in, leaf_of}
+use Rattle.ranked_leaves.specs.RanksStand.{ranked_in, ranked_of}
 use Rattle.leaf_table.specs.Records.{state_no, Marked, Sound}
 use Rattle.leaf_table.specs.States.{part, state_at, slots_at, leaf_at, ranked_at}
 use Rattle.leaf_table.specs.Changes.{asked, Elsewhere, roomy, FiledAt, Struck, StruckAt}

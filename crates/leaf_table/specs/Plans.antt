@@ -5,8 +5,8 @@
 use Rattle.std.specs.Prelude.{◌≡◌, ℕ, Bool, cond, ◌&&◌, nat_lt}
 use Rattle.ranks.specs.Boundaries.{by_use, live_count, rises, boundary_of}
 use Rattle.leaf.specs.Rules.{State, frozen, thawed}
-use Rattle.leaf_node.specs.declared.plan.Plan.{Plan}
-use Rattle.leaf_node.specs.declared.plan.Plan.TheVariants.{Remake, Full, Downgrade, Split}
+use Rattle.leaf_table.specs.declared.plan.Plan.{Plan}
+use Rattle.leaf_table.specs.declared.plan.Plan.TheVariants.{Remake, Full, Downgrade, Split}
 
 -- by the boundary, the live count, and whether all the slots of a full leaf ascend in order of use
 abbrev pub plan_by : ℕ × ℕ × Bool → Bool → Bool → Plan

@@ -4,23 +4,24 @@
 --     Parted              a new child place has the low leaf, and place t the high one
 --     Made                what a change of the target leaves at each place
 --     Filed               all of it
-use Rattle.std.specs.Prelude.{◌≡◌, ℕ, ◌≤◌, Bool, true, false, not, ◌&&◌, ◌≢◌, List, set, Result, ◌==◌, nat_lt, slice_set}
+use Rattle.std.specs.Prelude.{◌≡◌, ℕ, ◌≤◌, Bool, true, false, not, ◌&&◌, ◌≢◌, List, Result, ◌==◌, nat_lt, slice_set}
 use Rattle.keys.specs.Orders.{Order}
 use Rattle.keys.specs.declared.refusal.Refusal.{Refusal}
 use Rattle.ranks.specs.Dimensions.{slot_pos}
 use Rattle.ranks.specs.Words.{is_retired}
 use Rattle.lists.specs.Leaves.{Entry}
 use Rattle.lists.specs.Rows.{Change, one, two, no_room}
-use Rattle.lists.specs.Nodes.{child_places, Node, Done, fit_by, file, replace}
+use Rattle.lists.specs.Nodes.{child_places, Node, Done, file, replace}
+use Rattle.ranked_leaves.specs.Keepings.{fit_by}
 use Rattle.lists.specs.Histories.{accepted}
 use Rattle.leaf.specs.Rules.{state_of, filed}
 use Rattle.leaf.specs.Slots.{sides}
 use Rattle.leaf.specs.declared.data_block.Slot.{Slot}
-use Rattle.leaf_lists.specs.Ranked.{RankedLeaf, ranking}
+use Rattle.ranked_leaves.specs.Ranked.{RankedLeaf, ranking}
 use Rattle.leaf_table.specs.States.{part, state_at, slots_at, ranked_at, node_of, Kept, Aimed}
 use Rattle.leaf_table.specs.Changes.{Elsewhere}
 use Rattle.leaf_table.specs.declared.table.Table.{Table}
-use Rattle.leaf_node.specs.Answers.{filing_answer}
+use Rattle.leaf_table.specs.Answers.{filing_answer}
 
 abbrev pub call : {K V : Type 0} (O : Order K) → Entry K V → Bool → Node K V → Done K V
 call O e true n = replace O e n

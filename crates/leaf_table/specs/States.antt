@@ -13,12 +13,13 @@ use Rattle.ranks.specs.Words.{is_retired}
 use Rattle.lists.specs.Leaves.{Leaf}
 use Rattle.lists.specs.Rows.{Row, edge, child}
 use Rattle.lists.specs.Nodes.{Node, gone, sheet}
-use Rattle.lists.specs.Histories.{Reached}
+use Rattle.lists.specs.Histories.{Call, state_after}
 use Rattle.leaf.specs.Rules.{State, state_of, Least}
 use Rattle.leaf.specs.Slots.{Sorted}
 use Rattle.leaf.specs.declared.data_block.Slot.{Slot}
-use Rattle.leaf_lists.specs.Ranked.{RankedLeaf}
-use Rattle.leaf_lists.specs.Stands.{leaf_in, ranked_in}
+use Rattle.ranked_leaves.specs.Ranked.{RankedLeaf}
+use Rattle.leaf_lists.specs.Stands.{leaf_in}
+use Rattle.ranked_leaves.specs.RanksStand.{ranked_in}
 use Rattle.leaf_table.specs.Records.{state_no}
 use Rattle.leaf_table.specs.declared.table.Table.{Table}
 
@@ -76,6 +77,10 @@ module _ {K V : Type 0} (rec : Table) (slots : List (Slot K V)) where
   -- the uses of the child places are counted, and children are closed once the children's array is retired
   abbrev pub node_of : Node K V
   node_of = cond rec.gone gone (sheet row_of (state_of rec.children).uses (is_retired (state_of rec.children).flags))
+
+-- a node that calls make of a fresh one
+abbrev pub Reached : {K V : Type 0} (O : Order K) → Node K V → Type 0
+Reached {K} {V} O n = (cs : List (Call K V O.Place)) × ((state_after O cs).node ≡ n)
 
 pub record Kept {K V : Type 0} (O : Order K) (rec : Table) (slots : List (Slot K V)) : Type 0 where
   pub leaves : (t : ℕ) → t ≤ 15 → Sorted O (state_at rec t).ranks (slots_at rec slots t)

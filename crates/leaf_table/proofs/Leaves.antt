@@ -15,13 +15,14 @@ use Rattle.leaf.specs.declared.data_block.Slot.{Slot}
 use Rattle.leaf.specs.declared.result.InsertResult.{InsertResult}
 use Rattle.leaf.specs.declared.result.InsertResult.TheVariants as insert
 use Rattle.leaf.proofs.Sides.{nth_in}
-use Rattle.leaf_lists.specs.Ranked.{taken}
-use Rattle.leaf_lists.specs.Stands.{entry_of, leaf_of, ranked_of, found_in}
+use Rattle.ranked_leaves.specs.Ranked.{taken}
+use Rattle.leaf_lists.specs.Stands.{entry_of, leaf_of, found_in}
+use Rattle.ranked_leaves.specs.RanksStand.{ranked_of}
 use Rattle.leaf_lists.proofs.Bridge.{bridge}
 use Rattle.leaf_lists.proofs.Looks.{Held, held}
 use Rattle.leaf_table.specs.Records.{Marked}
 use Rattle.leaf_table.specs.Changes.{roomy}
-use Rattle.leaf_lists.proofs.Changes.{ranked-file}
+use Rattle.ranked_leaves.proofs.Changes.{ranked_file}
 
 -- ---- marks
 
@@ -147,7 +148,7 @@ module _ {K V : Type 0} (O : Order K) (L : Ordered O) (a : Array) (bs : List (Sl
       record {
         room = roomy_of O L a bs len so mark ∙ ap₂ (λ x y. x && y) w.0 w.2;
         absent = λ z. absent O L a bs len so mark new.key (not_held upsert held_here w.1 z);
-        ranks = ranked-file O L a bs len so new a' bs' (ltb-true _ _ w.2) i.state i.written;
+        ranks = ranked_file O L a bs len so new a' bs' (ltb-true _ _ w.2) i.state i.written;
         sorted = i.sorted;
       }
   filing_of insert.Duplicate i =
