@@ -1,8 +1,8 @@
 -- What the calls of a leaf array answer, and what they leave.
---     insert_number, remove_number   the number of each answer
---     insertion s ss upsert        what filing a key answers; ss are the sides of the slots seen from the key
---     Inserted                     what it leaves
---     removal                      what a strike answers and leaves, the condition too
+--     insert_number, remove_number    the number of each answer
+--     insertion s ss upsert           what filing a key answers; ss are the sides of the slots seen from the key
+--     Inserted                        what it leaves
+--     removal                         what a strike answers and leaves, the condition too
 use Rattle.std.specs.Prelude.{◌≡◌, ℕ, ◌+◌, ◌*◌, ◌<◌, Bool, false, cond, not, ◌&&◌, ◌||◌, List, replicate, is_some, IfSome, Some, None, Option, ◌==◌, ◌≢◌, nat_lt, slice_index, slice_set}
 use Rattle.std.specs.List.{slice_get}
 use Rattle.keys.specs.Orders.{Order}

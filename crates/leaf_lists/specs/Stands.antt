@@ -1,7 +1,7 @@
 -- The leaf that a leaf array and its slots stand for, and that the array's rules for ranks are the leaf lists' functions.
 --     leaf_of a slots        the uses in order, each with the entry of the slot that it took, live exactly if that slot's rank is not 0
 --     entries_at ps slots    the entries of the slots ps
---     Becomes O a slots l   the array and its slots stand for l, and ranks order keys
+--     Becomes O a slots l    the array and its slots stand for l, and ranks order keys
 use Rattle.std.specs.Prelude.{◌≡◌, ℕ, zero, suc, ◌+◌, ◌<◌, cond, not, ◌&&◌, List, [], ◌∷◌, ◌++◌, length, Some, None, Option, ◌==◌, nat_eq, slice_index, slice_set}
 use Rattle.std.proofs.Math.Option as lists
 use Rattle.std.proofs.Math.Option.{some, none}

@@ -1,9 +1,9 @@
 -- The node that a record and its 270 slots stand for.
 --     part n slots           the fifteen slots of leaf n; part 17 has the bounds
 --     pick rs bs f r         the child of rank r: its bound, and what f has for its place
---     row_on kid last r n     the row of the children of the ranks r to r + n - 1, and last the unbounded leaf
---     leaf_at rec slots t     the leaf of place t: 0 to 14 are child places, 15 is the unbounded leaf, 16 the spare
---     node_of rec slots       the node
+--     row_on kid last r n    the row of the children of the ranks r to r + n - 1, and last the unbounded leaf
+--     leaf_at rec slots t    the leaf of place t: 0 to 14 are child places, 15 is the unbounded leaf, 16 the spare
+--     node_of rec slots      the node
 --     Kept                   in every leaf, and among the bounds, ranks order keys
 --     Aimed rs ss t          place t is that of the child of the least rank that is not before a key, or 15 if there is none
 use Rattle.std.specs.Prelude.{◌≡◌, ℕ, zero, suc, ◌+◌, ◌-◌, ◌*◌, ◌<◌, ◌≤◌, cond, List, [], ◌∷◌, take, drop, Some, None, Option, ◌==◌, slice_index}

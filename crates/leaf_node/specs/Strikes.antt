@@ -1,7 +1,7 @@
 -- Strikes of a node as steps of the leaf lists, with their conditions.
 --     held_in O p n      the entry that holds the place p in the node n
---     asked after c o   the condition c once it was asked of the entry o, if there is one
---     StruckAt          what a strike answers and leaves before a leaf with no live slot goes
+--     asked after c o    the condition c once it was asked of the entry o, if there is one
+--     StruckAt           what a strike answers and leaves before a leaf with no live slot goes
 use Rattle.std.specs.Prelude.{◌≡◌, Bool, true, false, List}
 use Rattle.std.proofs.Math.Option.{Option, some, none}
 use Rattle.keys.specs.Orders.{Order}

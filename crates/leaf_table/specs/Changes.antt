@@ -1,9 +1,9 @@
 -- What a step in the leaf of one place answers and leaves.
---     Elsewhere      nothing has changed but the leaf of the place
---     roomy l        the leaf takes one slot more
---     FiledAt        an entry is filed in the leaf
---     StruckAt       a place is struck in the leaf
---     asked after c o   the condition c once it was asked of the entry o, if there is one
+--     Elsewhere          nothing has changed but the leaf of the place
+--     roomy l            the leaf takes one slot more
+--     FiledAt            an entry is filed in the leaf
+--     StruckAt           a place is struck in the leaf
+--     asked after c o    the condition c once it was asked of the entry o, if there is one
 use Rattle.std.specs.Prelude.{◌≡◌, ℕ, ◌≤◌, Bool, true, false, not, ◌&&◌, ◌≢◌, ◌⊎◌, List, length, nat_lt}
 use Rattle.std.proofs.Math.Option.{Option, some, none}
 use Rattle.keys.specs.Orders.{Order}

@@ -1,7 +1,7 @@
 -- What the record of a node keeps, whatever the slots hold.
---     states_of leaves    the state of each leaf
---     state_no leaves n   the state of leaf n
---     Marked s           an array is retired exactly if it has uses and none is live, and it is not frozen
+--     states_of leaves     the state of each leaf
+--     state_no leaves n    the state of leaf n
+--     Marked s             an array is retired exactly if it has uses and none is live, and it is not frozen
 use Rattle.std.specs.Prelude.{◌≡◌, ℕ, ◌<◌, cond, not, ◌&&◌, List, map, length, ◌==◌, slice_index, slice_index_or}
 use Rattle.ranks.specs.Words.{is_empty}
 use Rattle.leaf.specs.Calls.{fresh}

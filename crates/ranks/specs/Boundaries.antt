@@ -1,8 +1,8 @@
 -- Where a leaf splits.
---     by_use rs b n     the ranks of n uses from use b on, in order of use
---     live_count rs     how many are live
---     rises prev rs    how many of the live come after the live one before them, prev at first, 0 where there is none
---     boundary_of L a   the boundary, the live count, and whether a full leaf ascends in order of use, of L live and a rises
+--     by_use rs b n      the ranks of n uses from use b on, in order of use
+--     live_count rs      how many are live
+--     rises prev rs      how many of the live come after the live one before them, prev at first, 0 where there is none
+--     boundary_of L a    the boundary, the live count, and whether a full leaf ascends in order of use, of L live and a rises
 use Rattle.std.specs.Prelude.{ℕ, zero, suc, ◌+◌, Bool, false, cond, List, [], ◌∷◌, ◌==◌, nat_lt, slice_index}
 use Rattle.ranks.specs.Dimensions.{leaf_length, remake_limit, boundary, slot_pos}
 

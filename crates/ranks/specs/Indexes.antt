@@ -7,7 +7,7 @@
 --     given ix          the slot last given
 --     Gives             a step along the slots that are still to be given
 --     InOrder rs ps     ps are the live slots, each once, in order of rank
-use Rattle.std.specs.Prelude.{◌≡◌, ℕ, zero, suc, ◌+◌, ◌-◌, ◌<◌, ◌≤◌, cond, ◌⊎◌, List, [], ◌∷◌, length, drop, Some, None, Option, ◌==◌, ◌≢◌, slice_index, slice_index_or}
+use Rattle.std.specs.Prelude.{◌≡◌, ℕ, zero, suc, ◌+◌, ◌-◌, ◌<◌, ◌≤◌, cond, ◌⊎◌, List, [], ◌∷◌, length, drop, Some, None, Option, ◌==◌, ◌≢◌, slice_index}
 use Rattle.ranks.specs.Dimensions.{leaf_length}
 
 abbrev pub no_slot : ℕ
@@ -18,13 +18,13 @@ At rs n r x = ((x ≡ no_slot) × ((p : ℕ) → p < n → slice_index rs p ≢ 
 
 pub record Indexed (rs : List ℕ) (n : ℕ) (ix : List ℕ) : Type 0 where
   pub long : length ix ≡ suc leaf_length
-  pub start : slice_index_or ix 0 0 ≡ 0
+  pub start : slice_index ix 0 ≡ 0
   pub each : (r : ℕ) → 0 < r → r ≤ leaf_length → At rs n r (slice_index ix r)
 
 pub record Cursor (ix : List ℕ) : Type 0 where
   pub long : length ix ≡ suc leaf_length
   pub slot : (r : ℕ) → 0 < r → r ≤ leaf_length → (slice_index ix r ≢ no_slot) → slice_index ix r < leaf_length
-  pub last : slice_index_or ix 0 0 ≤ leaf_length
+  pub last : slice_index ix 0 ≤ leaf_length
   pub here : 0 < slice_index ix 0 → slice_index ix (slice_index ix 0) < leaf_length
 
 abbrev pub kept : ℕ → List ℕ → List ℕ

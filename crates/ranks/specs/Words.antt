@@ -1,11 +1,11 @@
 -- The rank word: fifteen ranks of four bits, lowest slot first, and above them the bits for retired and frozen.
---     encode ds       the number that the digits ds write in base 16
---     digits n w      the n lowest digits of w
---     ranks_of w       the ranks of the word w; the rank of slot p is `get_or (ranks_of w) p 0`, and 0 says that the slot is not live
+--     encode ds        the number that the digits ds write in base 16
+--     digits n w       the n lowest digits of w
+--     ranks_of w       the ranks of the word w; the rank of slot p is `slice_index (ranks_of w) p`, and 0 says that the slot is not live
 --     flags_of w       what stands above the ranks: 4 for bit 62, retired, and 8 for bit 63, frozen
 --     word_of rs f     the word of the ranks rs and the flags f
---     Reads w rs f    the word w has the ranks rs and the flags f; there is one such word, `word_of rs f`
---     lifted low rs   each rank above low raised by one
+--     Reads w rs f     the word w has the ranks rs and the flags f; there is one such word, `word_of rs f`
+--     lifted low rs    each rank above low raised by one
 use Rattle.std.specs.Prelude.{◌≡◌, ℕ, zero, suc, ◌+◌, ◌*◌, ◌/◌, ◌%◌, ◌^◌, Bool, true, cond, ◌&&◌, List, [], ◌∷◌, map, ◌==◌, nat_lt}
 use Rattle.ranks.specs.Dimensions.{leaf_length}
 
