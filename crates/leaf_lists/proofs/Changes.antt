@@ -39,7 +39,7 @@ module _ {K V : Type 0} where
       ap (onto (get_or rs (slot_pos b) 0) (slice_get slots (slot_pos b))) (from_more rs slots (b + 1) m i (omega arith))
       ∙ onto_join (get_or rs (slot_pos b) 0) (slice_get slots (slot_pos b)) (leaf_from rs slots (b + 1) m) _
 
-  nth_set : (xs : List (Slot K V)) (i : ℕ) (s : Slot K V) → i < length xs → slice_get (set xs i s) i ≡ Some s
+  pub nth_set : (xs : List (Slot K V)) (i : ℕ) (s : Slot K V) → i < length xs → slice_get (set xs i s) i ≡ Some s
   nth_set [] i s h = absurd (omega arith)
   nth_set (x ∷ xs) zero s h = refl
   nth_set (x ∷ xs) (suc i) s h = nth_set xs i s (omega arith)

@@ -22,6 +22,7 @@ use Rattle.ranked_leaves.specs.Ranked.{Ranked, RankedLeaf, raised, rank_of, clea
 use Rattle.leaf_lists.specs.Stands.{entry_of}
 use Rattle.ranked_leaves.specs.RanksStand.{onto_ranked, ranked_from, ranked_in, ranked_of}
 use Rattle.leaf_lists.proofs.Uses.{slot_other}
+use Rattle.leaf_lists.proofs.Changes.{nth_set}
 use Rattle.leaf_lists.proofs.Counts.{live_in, live_used, few_uses}
 use Rattle.leaf_lists.proofs.Looks.{Holds, Held, held, meets_one, meets_not, only_one}
 use Rattle.ranked_leaves.proofs.Ranks.{first, rank_none, rank_one, below_floor}
@@ -38,11 +39,6 @@ module _ {K V : Type 0} where
   from_more rs slots b (suc m) i e =
       ap (onto_ranked (get_or rs (slot_pos b) 0) (slice_get slots (slot_pos b))) (from_more rs slots (b + 1) m i (omega arith))
       ∙ onto_join (get_or rs (slot_pos b) 0) (slice_get slots (slot_pos b)) (ranked_from rs slots (b + 1) m) _
-
-  nth_set : (xs : List (Slot K V)) (i : ℕ) (s : Slot K V) → i < length xs → slice_get (set xs i s) i ≡ Some s
-  nth_set [] i s h = absurd (omega arith)
-  nth_set (x ∷ xs) zero s h = refl
-  nth_set (x ∷ xs) (suc i) s h = nth_set xs i s (omega arith)
 
   -- ---- uses whose ranks change
 
