@@ -3,8 +3,10 @@
 #![tactic(auto)]
 
 ghost use Rattle.std.specs.Prelude.{◌≡◌, length};
+ghost use Rattle.std.specs.Iterator.{IsFinite};
 
 use keys::condition::NotAvailable;
+use keys::refusal::number_of;
 use keys::sample::Sample;
 use keys::value::Reading;
 use leaf::array::Array;
@@ -35,6 +37,13 @@ fn sample(time: i16) -> Sample {
     }
 }
 
+fn entry(time: i16, value: i32, status: u8) -> Slot<Sample, Reading> {
+    Slot {
+        key: sample(time),
+        val: Reading { value, status },
+    }
+}
+
 // Files the whole burst; a reading that came twice is refused.
 fn file_all(
     rt: &impl Print,
@@ -44,10 +53,9 @@ fn file_all(
     requires { length slots.old ≡ 15 }
 {
     for (time, value, status) in BURST {
-        let number = array
-            .insert(slots, sample(time), Reading { value, status }, false)
-            .number();
-        println!(rt; "file {time} {value} {status}: {number}")?;
+        let new = entry(time, value, status);
+        let answer = array.insert(slots, new, false);
+        println!(rt; "file {time} {}: {}", new.val, number_of(&answer))?;
     }
     Ok(())
 }
@@ -60,74 +68,46 @@ fn put_right(
 ) -> io::Result<()>
     requires { length slots.old ≡ 15 }
 {
-    let again = Reading {
-        value: -75,
-        status: 0,
-    };
-    let number = array.insert(slots, sample(30), again, true).number();
-    println!(rt; "replace 30 -75 0: {number}")?;
+    let again = entry(30, -75, 0);
+    let answer = array.insert(slots, again, true);
+    println!(rt; "replace 30 {}: {}", again.val, number_of(&answer))?;
     for (time, _, _) in BURST {
-        let number = array
-            .remove_if(slots, &sample(time), &mut NotAvailable)
-            .number();
-        if number == 0 {
-            println!(rt; "strike {time}: {number}")?;
+        let answer = array.remove_if(slots, &sample(time), &mut NotAvailable);
+        if answer.is_ok() {
+            println!(rt; "strike {time}: {}", number_of(&answer))?;
         }
     }
     Ok(())
 }
 
-fn print_entry(rt: &impl Print, slots: &[Slot<Sample, Reading>], pos: u8) -> io::Result<()> {
-    let Some(slot) = slots.get(pos as usize) else {
-        return Ok(());
-    };
-    let time = slot.key.time;
-    let value = slot.val.value;
-    let status = slot.val.status;
-    println!(rt; "  {time} {value} {status}")
-}
-
-fn print_forward(
+// The entries of the slots that a walk gives.
+fn print_entries<W: Iterator<Item = u8>>(
     rt: &impl Print,
-    array: &Array,
+    heading: &str,
     slots: &[Slot<Sample, Reading>],
-) -> io::Result<()> {
-    println!(rt; "forward")?;
-    let mut iter = array.iter();
-    while let Some(pos) = iter.next() {
-        print_entry(rt, slots, pos)?;
-    }
-    Ok(())
-}
-
-fn print_backward(
-    rt: &impl Print,
-    array: &Array,
-    slots: &[Slot<Sample, Reading>],
-) -> io::Result<()> {
-    println!(rt; "backward")?;
-    let mut iter = array.iter();
-    while let Some(pos) = iter.next_back() {
-        print_entry(rt, slots, pos)?;
+    walk: W,
+) -> io::Result<()>
+    requires can { W.can_next walk }
+    requires finite { IsFinite (W.remaining walk) }
+{
+    println!(rt; "{heading}")?;
+    for pos in walk {
+        if let Some(slot) = slots.get(usize::from(pos)) {
+            println!(rt; "  {} {}", slot.key.time, slot.val)?;
+        }
     }
     Ok(())
 }
 
 fn main(rt: HostRuntime) -> io::Result<()> {
     let mut array = Array::new();
-    let unused = Slot {
-        key: sample(0),
-        val: Reading {
-            value: 0,
-            status: 0,
-        },
-    };
-    let mut slots = [unused; 15];
+    let mut slots = [entry(0, 0, 0); 15];
     file_all(&rt, &mut array, &mut slots)?;
     put_right(&rt, &mut array, &mut slots)?;
-    print_forward(&rt, &array, &slots)?;
-    print_backward(&rt, &array, &slots)?;
-    let metadata = array.metadata;
-    let bitmap = array.bitmap;
-    println!(rt; "rank word {metadata:016x}, bitmap {bitmap:015b}")
+    print_entries(&rt, "forward", &slots, array.iter())?;
+    print_entries(&rt, "backward", &slots, array.iter().rev())?;
+    println!(rt;
+        "rank word {:016x}, bitmap {:015b}",
+        array.metadata, array.bitmap
+    )
 }

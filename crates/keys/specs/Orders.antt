@@ -1,5 +1,5 @@
 -- An order of keys: each key has a place, and of two places the first is before, at or after the second.
-use Rattle.std.specs.Prelude.{◌≡◌, ℕ, Bool, true, false, cond, not, ℤ, ◌==◌, int_lt, nat_lt}
+use Rattle.std.specs.Prelude.{◌≡◌, ℕ, Bool, true, false, cond, not, ℤ, Decides, ◌==◌, int_lt, nat_lt}
 use Rattle.std.specs.declared.cmp.Ordering.TheVariants.{Less, Equal, Greater}
 use Rattle.std.specs.declared.cmp.Ordering.{Ordering}
 
@@ -53,6 +53,10 @@ abbrev pub answered : Way → Ordering
 answered before = Less
 answered same = Equal
 answered after = Greater
+
+-- words for before and for same that fit how one place stands to another
+abbrev pub InWords : Way → Type 0 → Type 0 → Type 0
+InWords w Before Alike = Decides (is_before w) Before × Decides (is_same w) Alike
 
 -- two orders of one key that say the same of any two keys
 abbrev pub Agree : {K : Type 0} → Order K → Order K → Type 0

@@ -1,9 +1,13 @@
 -- What an order says of two places, and that the orders of specs/Orders are orders.
-use Rattle.std.specs.Prelude.{◌≡◌, true, ◌⊎◌, refl}
+use Rattle.std.specs.Prelude.{◌≡◌, ◌<◌, true, ◌⊎◌, refl}
 use Rattle.std.proofs.Common.{ap, inl, inr, arith}
 use Rattle.std.proofs.lemmas.Int.{ints}
 use Rattle.std.proofs.lemmas.Bool.Decides.{nat_tests}
-use Rattle.keys.specs.Orders.{Order, Ordered, Way, before, same, after, is_same, turned, numbers, integers, by, then_by, reversed}
+use Rattle.keys.specs.Orders.{Order, Ordered, Way, before, same, after, is_same, turned, numbers, integers, by, then_by, reversed, stands, InWords}
+use Rattle.keys.specs.Samples.{samples, Sooner}
+use Rattle.keys.specs.Pages.{pages}
+use Rattle.keys.specs.declared.sample.Sample.{Sample}
+use Rattle.keys.specs.declared.page.Page.{Page}
 
 pub ways : (w : Way) → (w ≡ before) ⊎ ((w ≡ same) ⊎ (w ≡ after))
 ways before = inl refl
@@ -61,3 +65,9 @@ reversed_ordered of O L = record {
   flop = λ p q h. ap turned (L.flip p q (grind arith));
   through = λ p q r h k. ap turned (L.flip r p (L.through r q p (L.flop q r (grind arith)) (L.flop p q (grind arith))));
 }
+
+pub sooner_said : (x y : Sample) → InWords (stands samples x y) (Sooner x y) (x ≡ y)
+sooner_said x y = (grind (arith, ints, nat_tests), grind (arith, ints, nat_tests))
+
+pub lower_said : (x y : Page) → InWords (stands pages x y) (x.address < y.address) (x.address ≡ y.address)
+lower_said x y = (grind (arith, nat_tests), grind (arith, nat_tests))

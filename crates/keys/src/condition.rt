@@ -4,7 +4,7 @@ ghost use Rattle.keys.specs.Conditions.{is_unavailable, countdown, yeses};
 
 use crate::value::{HasStatus, NOT_AVAILABLE};
 
-// A condition: what it says of a value, and what it is after it was asked.
+// A condition: what it says of a value, and what it is after it was asked. A trait and no closure, since contracts name both.
 pub trait Condition<V> {
     ghost verdict: { Self → V → Bool };
 

@@ -9,3 +9,4 @@ pub mod reversed;
 pub mod sample;
 pub mod stored;
 pub mod value;
+pub mod worded;

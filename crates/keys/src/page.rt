@@ -2,13 +2,14 @@
 ghost use Rattle.std.specs.Prelude.{◌≡◌, ◌<◌, Decides, refl};
 ghost use Rattle.keys.specs.Pages.{pages, page_of};
 ghost use Rattle.keys.specs.Orders.{numbers};
-ghost use Rattle.keys.specs.Places.{numbers_ordered, by_ordered};
+ghost use Rattle.keys.specs.Places.{numbers_ordered, by_ordered, lower_said};
 
 use crate::equivalent::{Comparable, Equivalent, is_before};
 use crate::stored::Spelled;
+use crate::worded::Worded;
 use std::cmp::Ordering;
 
-#[derive(Clone, Copy)]
+#[derive(Clone, Copy, Debug, PartialEq, Eq, PartialOrd, Ord)]
 pub struct Page {
     pub address: u32,
 }
@@ -21,7 +22,7 @@ impl Equivalent<Page> for Page {
     ghost lawful = { by_ordered _ numbers numbers_ordered };
 
     fn equivalent(&self, key: &Page) -> bool {
-        self.address == key.address
+        self == key
     }
 }
 
@@ -31,30 +32,30 @@ impl Comparable<Page> for Page {
     ghost agree = { λ _ _. refl };
 
     fn compare(&self, key: &Page) -> Ordering {
-        self.address.cmp(&key.address)
+        self.cmp(key)
+    }
+}
+
+impl From<[u8; 4]> for Page {
+    ghost from_gives = { λ b p. p ≡ page_of b };
+
+    fn from(bytes: [u8; 4]) -> Page {
+        Page {
+            address: u32::from_be_bytes(bytes),
+        }
     }
 }
 
 impl Spelled for Page {
     ghost of = { page_of };
 
-    fn read(bytes: &[u8; 4]) -> Page {
-        Page {
-            address: u32::from_be_bytes(*bytes),
-        }
-    }
+    ghost spelled = { λ _ _ h. h };
 }
 
-// One page has a lower address than another.
-pub fn below(one: &Page, other: &Page) -> bool
-    ensures { Decides result (one.now.address < other.now.address) }
-{
-    is_before(one, other)
-}
+impl Worded for Page {
+    ghost Before = { λ x y. x.address < y.address };
 
-// Two pages have one address.
-pub fn same_page(one: &Page, other: &Page) -> bool
-    ensures { Decides result (one.now.address ≡ other.now.address) }
-{
-    one.equivalent(other)
+    ghost Alike = { λ x y. x.address ≡ y.address };
+
+    ghost said = { lower_said };
 }

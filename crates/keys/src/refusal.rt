@@ -1,8 +1,8 @@
 // Why a call is refused.
 ghost use Rattle.std.specs.Prelude.{◌≡◌};
-ghost use Rattle.keys.specs.Refusals.{number};
+ghost use Rattle.keys.specs.Refusals.{number, number_of};
 
-#[derive(Clone, Copy)]
+#[derive(Clone, Copy, Debug, PartialEq, Eq)]
 pub enum Refusal {
     // an entry with the key's place stands already
     Duplicate,
@@ -20,11 +20,11 @@ pub enum Refusal {
     StoredLength,
 }
 
-impl Refusal {
-    pub fn number(self) -> u8
-        ensures { result ≡ number self }
-    {
-        match self {
+impl From<Refusal> for u8 {
+    ghost from_gives = { λ r n. n ≡ number r };
+
+    fn from(refusal: Refusal) -> u8 {
+        match refusal {
             Refusal::Duplicate => 1,
             Refusal::Full => 2,
             Refusal::NotStruck => 3,
@@ -33,5 +33,15 @@ impl Refusal {
             Refusal::SlotCount => 6,
             Refusal::StoredLength => 7,
         }
+    }
+}
+
+// The number of an answer: 0, or that of the refusal.
+pub fn number_of<T>(answer: &Result<T, Refusal>) -> u8
+    ensures { result ≡ number_of answer.now }
+{
+    match answer {
+        Ok(_) => 0,
+        Err(refusal) => u8::from(*refusal),
     }
 }

@@ -6,6 +6,7 @@ ghost use Rattle.keys.specs.Places.{reversed_ordered};
 use crate::equivalent::{Comparable, Equivalent};
 use std::cmp::Ordering;
 
+// Its order is that of any query, turned, which no derive gives.
 #[derive(Clone, Copy)]
 pub struct Reversed<K> {
     pub key: K,

@@ -2,13 +2,14 @@
 ghost use Rattle.std.specs.Prelude.{◌≡◌, Decides, refl};
 ghost use Rattle.keys.specs.Samples.{samples, sample_of, Sooner};
 ghost use Rattle.keys.specs.Orders.{numbers, integers};
-ghost use Rattle.keys.specs.Places.{numbers_ordered, integers_ordered, by_ordered, then_ordered};
+ghost use Rattle.keys.specs.Places.{numbers_ordered, integers_ordered, by_ordered, then_ordered, sooner_said};
 
 use crate::equivalent::{Comparable, Equivalent, is_before};
 use crate::stored::Spelled;
+use crate::worded::Worded;
 use std::cmp::Ordering;
 
-#[derive(Clone, Copy)]
+#[derive(Clone, Copy, Debug, PartialEq, Eq, PartialOrd, Ord)]
 pub struct Sample {
     pub event: u8,
     // in milliseconds
@@ -24,7 +25,7 @@ impl Equivalent<Sample> for Sample {
     ghost lawful = { then_ordered _ _ (by_ordered _ numbers numbers_ordered) (then_ordered _ _ (by_ordered _ integers integers_ordered) (by_ordered _ numbers numbers_ordered)) };
 
     fn equivalent(&self, key: &Sample) -> bool {
-        self.event == key.event && self.time == key.time && self.channel == key.channel
+        self == key
     }
 }
 
@@ -34,12 +35,18 @@ impl Comparable<Sample> for Sample {
     ghost agree = { λ _ _. refl };
 
     fn compare(&self, key: &Sample) -> Ordering {
-        match self.event.cmp(&key.event) {
-            Ordering::Equal => self
-                .time
-                .cmp(&key.time)
-                .then(self.channel.cmp(&key.channel)),
-            decided => decided,
+        self.cmp(key)
+    }
+}
+
+impl From<[u8; 4]> for Sample {
+    ghost from_gives = { λ b s. s ≡ sample_of b };
+
+    fn from([event, high, low, channel]: [u8; 4]) -> Sample {
+        Sample {
+            event,
+            time: i16::from_be_bytes([high, low]),
+            channel,
         }
     }
 }
@@ -47,25 +54,13 @@ impl Comparable<Sample> for Sample {
 impl Spelled for Sample {
     ghost of = { sample_of };
 
-    fn read(bytes: &[u8; 4]) -> Sample {
-        Sample {
-            event: bytes[0],
-            time: i16::from_be_bytes([bytes[1], bytes[2]]),
-            channel: bytes[3],
-        }
-    }
+    ghost spelled = { λ _ _ h. h };
 }
 
-// One sample is sooner than another.
-pub fn sooner(one: &Sample, other: &Sample) -> bool
-    ensures { Decides result (Sooner one.now other.now) }
-{
-    is_before(one, other)
-}
+impl Worded for Sample {
+    ghost Before = { Sooner };
 
-// Two samples agree in event, time and channel.
-pub fn alike(one: &Sample, other: &Sample) -> bool
-    ensures { Decides result (one.now ≡ other.now) }
-{
-    one.equivalent(other)
+    ghost Alike = { λ x y. x ≡ y };
+
+    ghost said = { sooner_said };
 }

@@ -7,77 +7,66 @@ use crate::refusal::Refusal;
 use crate::reversed::Reversed;
 use std::cmp::Ordering;
 
-// A key that four bytes spell.
-pub trait Spelled: Sized {
+// A key that four bytes spell: the key that is made from them.
+pub trait Spelled: From<[u8; 4]> {
     ghost of: { List ℕ → Self };
 
-    fn read(bytes: &[u8; 4]) -> Self
-        ensures { result ≡ of bytes.now };
+    ghost spelled: { (b : List ℕ) (k : Self) → Self.From.from_gives b k → k ≡ of b };
 }
 
 // A reversed key is spelled as the key is.
-impl<K: Spelled> Spelled for Reversed<K> {
-    ghost of = { λ b. record { key = K.Spelled.of b } };
+impl<K: Spelled> From<[u8; 4]> for Reversed<K> {
+    ghost from_gives = { λ b r. r ≡ record { key = K.Spelled.of b } };
 
-    fn read(bytes: &[u8; 4]) -> Reversed<K> {
+    fn from(bytes: [u8; 4]) -> Reversed<K> {
         Reversed {
-            key: K::read(bytes),
+            key: K::from(bytes),
         }
     }
 }
 
-// What lends four bytes.
-pub trait Lends {
-    ghost four: { Self → List ℕ };
+impl<K: Spelled> Spelled for Reversed<K> {
+    ghost of = { λ b. record { key = K.Spelled.of b } };
 
-    fn four(&self) -> &[u8; 4]
-        ensures { result.now ≡ four self.now };
-}
-
-impl<'a> Lends for &'a [u8; 4] {
-    ghost four = { λ b. b.now };
-
-    fn four(&self) -> &[u8; 4] {
-        *self
-    }
+    ghost spelled = { λ _ _ h. h };
 }
 
 // A stored key as a query: it has the place of the key that its bytes spell, in the keys' own order.
 #[derive(Clone, Copy)]
-pub struct Stored<B> {
-    pub bytes: B,
+pub struct Stored<'a> {
+    pub bytes: &'a [u8; 4],
 }
 
-impl<K: Comparable<K> + Spelled + Copy, B: Lends> Equivalent<K> for Stored<B> {
+impl<K: Comparable<K> + Spelled + Copy> Equivalent<K> for Stored<'_> {
     ghost order = { K.Equivalent.order };
 
-    ghost spells = { λ q. K.Spelled.of (B.Lends.four q.bytes) };
+    ghost spells = { λ q. K.Spelled.of q.bytes.now };
 
     ghost lawful = { K.Equivalent.lawful };
 
     fn equivalent(&self, key: &K) -> bool {
-        K::read(self.bytes.four()).equivalent(key)
+        K::from(*self.bytes).equivalent(key)
     }
 }
 
-impl<K: Comparable<K> + Spelled + Copy, B: Lends> Comparable<K> for Stored<B> {
+impl<K: Comparable<K> + Spelled + Copy> Comparable<K> for Stored<'_> {
     ghost own = { K.Comparable.own };
 
     ghost agree = { λ _ _. refl };
 
     fn compare(&self, key: &K) -> Ordering {
-        K::read(self.bytes.four()).compare(key)
+        K::from(*self.bytes).compare(key)
     }
 }
 
-impl<'a> Stored<&'a [u8; 4]> {
+impl<'a> TryFrom<&'a [u8]> for Stored<'a> {
+    type Error = Refusal;
+
+    ghost try_from_gives = { λ b r. IfFour b.now (λ s. s.bytes.now ≡ b.now) r };
+
     // Refuses, before it looks at any byte, what is not four bytes.
-    pub fn new(bytes: &'a [u8]) -> Result<Stored<&'a [u8; 4]>, Refusal>
-        ensures { IfFour bytes.now (λ s. s.bytes.now ≡ bytes.now) result }
-    {
-        match <&[u8; 4]>::try_from(bytes) {
-            Ok(bytes) => Ok(Stored { bytes }),
-            Err(_) => Err(Refusal::StoredLength),
-        }
+    fn try_from(bytes: &'a [u8]) -> Result<Stored<'a>, Refusal> {
+        let bytes: &[u8; 4] = bytes.try_into().map_err(|_| Refusal::StoredLength)?;
+        Ok(Stored { bytes })
     }
 }

@@ -1,5 +1,8 @@
 // The values beside keys, each with a status.
 ghost use Rattle.std.specs.Prelude.{◌≡◌, ℕ};
+ghost use Rattle.keys.specs.Values.{with_status};
+
+use std::fmt;
 
 pub trait HasStatus {
     ghost code: { Self → ℕ };
@@ -11,32 +14,32 @@ pub trait HasStatus {
 // The status of a value that is not available.
 pub const NOT_AVAILABLE: u8 = 255;
 
-// The value beside a sample: what was read.
-#[derive(Clone, Copy)]
-pub struct Reading {
-    pub value: i32,
+// A number with its status.
+#[derive(Clone, Copy, Debug, PartialEq, Eq)]
+pub struct Measured<N> {
+    pub value: N,
     pub status: u8,
 }
 
-impl HasStatus for Reading {
-    ghost code = { λ r. r.status };
+// The value beside a sample: what was read.
+pub type Reading = Measured<i32>;
+
+// The value beside a page: its length.
+pub type Extent = Measured<u32>;
+
+impl<N> HasStatus for Measured<N> {
+    ghost code = { λ m. m.status };
 
     fn status(&self) -> u8 {
         self.status
     }
 }
 
-// The value beside a page: its length.
-#[derive(Clone, Copy)]
-pub struct Extent {
-    pub length: u32,
-    pub status: u8,
-}
+// The number, a blank, the status.
+impl<N: fmt::Display> fmt::Display for Measured<N> {
+    ghost output = { λ m. with_status (N.Display.output m.value) m.status };
 
-impl HasStatus for Extent {
-    ghost code = { λ e. e.status };
-
-    fn status(&self) -> u8 {
-        self.status
+    fn fmt<W: fmt::Write>(&self, f: &mut fmt::Formatter<W>) -> fmt::Result {
+        write!(f, "{} {}", self.value, self.status)
     }
 }

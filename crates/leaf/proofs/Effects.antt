@@ -1,15 +1,14 @@
 -- What a key that takes the free slot f does to the ranks, slot by slot: the same for a new key and for one that is replaced.
 --     Took     whatever the slots hold
 --     Effect   where ranks order keys; ss are the sides seen from the key
-use Rattle.std.proofs.Common.{◌≡◌, ℕ, ◌+◌, ◌<◌, ◌≤◌, ◌≢◌, ◌⊎◌, List, length, get_or, set, sym, ap, ◌∙◌, subst, inl, inr, ⊎_elim, arith}
+use Rattle.std.proofs.Common.{◌≡◌, ℕ, ◌+◌, ◌<◌, ◌≤◌, ◌≢◌, ◌⊎◌, List, length, get_or, set, Result, Ok, Err, sym, ap, ◌∙◌, subst, inl, inr, ⊎_elim, arith}
 use Rattle.std.proofs.lemmas.List.{length-set, get_or-set_same, get_or-set_other}
 use Rattle.std.proofs.lemmas.Bool.{cases_eq, cases_lt, cases_order}
 use Rattle.ranks.specs.Words.{lifted}
 use Rattle.ranks.specs.Indexes.{Apart}
 use Rattle.ranks.proofs.Lifts.{lift_up, lift_flat, length_lifted, get_or_lifted, lifted_same}
-use Rattle.leaf.specs.Seeks.{Level, Inside, taken, Parted, Sought}
-use Rattle.leaf.specs.declared.seek.Spot.{Spot}
-use Rattle.leaf.specs.declared.seek.Spot.TheVariants.{Same, Between}
+use Rattle.leaf.specs.Seeks.{Level, Inside, taken, Sought}
+use Rattle.leaf.specs.declared.seek.Gap.{Gap}
 use Rattle.leaf.proofs.Sides.{Arranged}
 
 pub record Took (rs rs' : List ℕ) (u f : ℕ) : Type 0 where
@@ -60,9 +59,9 @@ module _ (rs : List ℕ) (nr : length rs ≡ 15) (low f : ℕ) (hf : f < 15) whe
         ]);
   }
 
-  pub effect_new : (ss : List ℕ) (best : ℕ) → Parted rs ss low best → Effect ss new f
-  effect_new ss best part = record {
-    kept = λ p h n l. elim (turns p n) [ inl c ↦ inl (part.below p h (omega arith) c.0, omega (arith, new_f)) | inr c ↦ inr (part.above p h c.0, omega (arith, new_f)) ];
+  pub effect_new : (ss : List ℕ) → ((p : ℕ) → p < 15 → 0 < get_or rs p 0 → get_or rs p 0 ≤ low → get_or ss p 0 ≡ 0) → ((p : ℕ) → p < 15 → low < get_or rs p 0 → 2 ≤ get_or ss p 0) → Effect ss new f
+  effect_new ss below above = record {
+    kept = λ p h n l. elim (turns p n) [ inl c ↦ inl (below p h (omega arith) c.0, omega (arith, new_f)) | inr c ↦ inr (above p h c.0, omega (arith, new_f)) ];
   }
 
 -- ---- a key that is replaced: slot o hands its rank over
@@ -114,15 +113,15 @@ level_le : (rs : List ℕ) (low u : ℕ) → Level rs low → ((i : ℕ) → get
 level_le rs low u (inl e) b = omega arith
 level_le rs low u (inr (x, h, e)) b = omega (arith, b x)
 
-pub took : (rs : List ℕ) (spot : Spot) (u f : ℕ) → length rs ≡ 15 → f < 15 → Inside rs spot → ((i : ℕ) → get_or rs i 0 ≤ u) → Apart rs → Took rs (taken rs spot f) u f
-took rs (Same o) u f nr hf i b apart = took_moved rs nr o f i.0 i.1 hf u b apart
-took rs (Between low best) u f nr hf i b apart = took_new rs nr low f hf u (level_le rs low u i.0 b) b apart
+pub took : (rs : List ℕ) (spot : Result ℕ Gap) (u f : ℕ) → length rs ≡ 15 → f < 15 → Inside rs spot → ((i : ℕ) → get_or rs i 0 ≤ u) → Apart rs → Took rs (taken rs spot f) u f
+took rs (Ok o) u f nr hf i b apart = took_moved rs nr o f i.0 i.1 hf u b apart
+took rs (Err gap) u f nr hf i b apart = took_new rs nr gap.low f hf u (level_le rs gap.low u i.0 b) b apart
 
-pub effect : (rs ss : List ℕ) (spot : Spot) (f : ℕ) → length rs ≡ 15 → f < 15 → Inside rs spot → Arranged rs ss → Sought rs ss spot → Effect ss (taken rs spot f) f
-effect rs ss (Same o) f nr hf i ord s = effect_moved rs nr o f i.0 i.1 hf ss ord s
-effect rs ss (Between low best) f nr hf i ord s = effect_new rs nr low f hf ss best s
+pub effect : (rs ss : List ℕ) (spot : Result ℕ Gap) (f : ℕ) → length rs ≡ 15 → f < 15 → Inside rs spot → Arranged rs ss → Sought rs ss spot → Effect ss (taken rs spot f) f
+effect rs ss (Ok o) f nr hf i ord s = effect_moved rs nr o f i.0 i.1 hf ss ord s
+effect rs ss (Err gap) f nr hf i ord s = effect_new rs nr gap.low f hf ss s.below s.above
 
 -- the free slot becomes live
-pub taken_live : (rs : List ℕ) (spot : Spot) (f : ℕ) → length rs ≡ 15 → f < 15 → Inside rs spot → 0 < get_or (taken rs spot f) f 0
-taken_live rs (Same o) f nr hf i = omega (arith, i.1, get_or-set_same (set rs o 0) f (get_or rs o 0) 0 (omega (arith, length-set rs o 0)))
-taken_live rs (Between low best) f nr hf i = omega (arith, get_or-set_same (lifted low rs) f (low + 1) 0 (omega (arith, length_lifted low rs)))
+pub taken_live : (rs : List ℕ) (spot : Result ℕ Gap) (f : ℕ) → length rs ≡ 15 → f < 15 → Inside rs spot → 0 < get_or (taken rs spot f) f 0
+taken_live rs (Ok o) f nr hf i = omega (arith, i.1, get_or-set_same (set rs o 0) f (get_or rs o 0) 0 (omega (arith, length-set rs o 0)))
+taken_live rs (Err gap) f nr hf i = omega (arith, get_or-set_same (lifted gap.low rs) f (gap.low + 1) 0 (omega (arith, length_lifted gap.low rs)))

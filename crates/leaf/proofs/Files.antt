@@ -1,27 +1,29 @@
 -- A key filed in an array: ranks still order keys, and what is answered and left is what the rules say.
-use Rattle.std.proofs.Common.{◌≡◌, ℕ, zero, suc, ◌+◌, ◌-◌, ◌<◌, ◌≤◌, Bool, true, false, ◌≢◌, ◌⊎◌, List, [], ◌∷◌, map, length, get_or, set, is_some, Some, sym, refl, ap, ◌∙◌, subst, inl, inr, ⊎_elim, arith}
+use Rattle.std.proofs.Common.{◌≡◌, ℕ, zero, suc, ◌+◌, ◌-◌, ◌*◌, ◌<◌, ◌≤◌, Bool, true, false, ◌≢◌, ◌⊎◌, List, [], ◌∷◌, map, length, get_or, set, is_some, Some, None, Option, MatchOption, Result, Ok, Err, is_ok, sym, refl, ap, ap₂, ◌∙◌, subst, inl, inr, ⊎_elim, arith}
 use lib.Count.{ones}
 use Rattle.std.specs.List.{slice_get}
+use Rattle.std.proofs.lemmas.Option.{slice_get_within}
 use Rattle.std.proofs.lemmas.Bool.{cases_eq}
 use Rattle.std.proofs.lemmas.Bool.Decides.{nat_tests}
 use Rattle.keys.specs.Orders.{Order, Ordered, stands}
+use Rattle.keys.specs.declared.refusal.Refusal.{Refusal}
+use Rattle.keys.specs.declared.refusal.Refusal.TheVariants.{Duplicate}
 use Rattle.ranks.specs.Dimensions.{slot_pos}
 use Rattle.ranks.specs.Words.{ranks_of, flags_of, is_retired, Reads}
 use Rattle.ranks.proofs.Words.{length_digits}
-use Rattle.ranks.proofs.Uses.{slot_lt}
+use Rattle.ranks.proofs.Uses.{ones_more, slot_lt}
 use Rattle.leaf.specs.Records.{Whole}
 use Rattle.leaf.specs.Slots.{side_of, sides, Sorted}
 use Rattle.leaf.specs.Rules.{State, state_of, holder, used, given, Spare}
-use Rattle.leaf.specs.Seeks.{there, Inside, taken, Sought}
-use Rattle.leaf.specs.Calls.{insertion, Inserted, Filled}
-use Rattle.leaf.specs.declared.result.InsertResult.TheVariants as insert
+use Rattle.leaf.specs.Seeks.{Inside, taken, Sought}
+use Rattle.leaf.specs.Calls.{is_full, insertion, Inserted, Filled, Fits}
 use Rattle.leaf.specs.declared.array.Array.{Array}
 use Rattle.leaf.specs.declared.data_block.Slot.{Slot}
 use Rattle.leaf.proofs.Sides.{before_side, after_side, side_at}
-use Rattle.leaf.specs.declared.seek.Spot.{Spot}
-use Rattle.leaf.proofs.Effects.{Took, Effect, took, effect, taken_live}
-use Rattle.leaf.proofs.Wholes.{whole_out, clear_cases, whole_took}
-use Rattle.leaf.proofs.Finds.{found_there, filed_is}
+use Rattle.leaf.specs.declared.seek.Gap.{Gap}
+use Rattle.leaf.proofs.Effects.{Took, Effect, took, took_last, effect, taken_live}
+use Rattle.leaf.proofs.Wholes.{whole_out, clear_cases, whole_more, whole_took, not_full, made, made_same}
+use Rattle.leaf.proofs.Finds.{found_some, filed_is}
 use Rattle.leaf.proofs.Finds.{seen as seen-from}
 
 pub nth_same : {A : Type 0} (xs : List A) (i : ℕ) (x y : A) → slice_get (set xs i x) i ≡ Some y → x ≡ y
@@ -36,12 +38,6 @@ nth_other (z ∷ xs) zero (suc j) x n = refl
 nth_other (z ∷ xs) (suc i) zero x n = refl
 nth_other (z ∷ xs) (suc i) (suc j) x n = nth_other xs i j x (λ e. n (ap suc e))
 
--- a slot that is there lies within
-pub nth_lt : {A : Type 0} (xs : List A) (i : ℕ) (x : A) → slice_get xs i ≡ Some x → i < length xs
-nth_lt [] i x e = grind arith
-nth_lt (y ∷ xs) zero x e = omega arith
-nth_lt (y ∷ xs) (suc i) x e = omega (arith, nth_lt xs i x e)
-
 -- ---- ranks still order keys
 
 module _ {K V : Type 0} (O : Order K) (L : Ordered O) (rs rs' : List ℕ) (slots : List (Slot K V)) (n : length slots ≡ 15) (so : Sorted O rs slots) (new : Slot K V) (u f : ℕ) (t : Took rs rs' u f) (ef : Effect (sides O new.key slots) rs' f) where
@@ -49,7 +45,7 @@ module _ {K V : Type 0} (O : Order K) (L : Ordered O) (rs rs' : List ℕ) (slots
   old p a m e = sym (nth_other slots f p new m) ∙ e
 
   in_leaf : (p : ℕ) (a : Slot K V) → p ≢ f → slice_get (set slots f new) p ≡ Some a → p < 15
-  in_leaf p a m e = omega (arith, nth_lt slots p a (old p a m e))
+  in_leaf p a m e = omega (arith, slice_get_within slots p a (old p a m e))
 
   -- where a slot p that is live lies, seen from the new key
   seen : (p : ℕ) (a : Slot K V) (m : p ≢ f) (e : slice_get (set slots f new) p ≡ Some a) → get_or (sides O new.key slots) p 0 ≡ side_of (stands O new.key a.key)
@@ -88,71 +84,83 @@ sorted_struck O rs slots p so x y a b ea eb l r = elim (clear_cases rs p x) [
 pub own_sides : {K V : Type 0} (O : Order K) (x y : K) (slots : List (Slot K V)) → O.place x ≡ O.place y → sides O x slots ≡ sides O y slots
 own_sides O x y slots e = ap (λ p. map (λ s. side_of (O.way p (O.place s.key))) slots) e
 
--- ---- the state of a record
-
-abbrev pub made : List ℕ → ℕ → ℕ → State
-made rs u f = record { ranks = rs; uses = u; flags = f }
-
-pub made_same : {rs rs' : List ℕ} {u u' f f' : ℕ} → rs ≡ rs' → u ≡ u' → f ≡ f' → made rs u f ≡ made rs' u' f'
-made_same {rs} {rs'} {u} {u'} {f} {f'} x y z = ap (λ r. made r u f) x ∙ ap (λ k. made rs' k f) y ∙ ap (made rs' u') z
-
 -- ---- what filing answers
 
 module _ (s : State) (ss : List ℕ) (upsert : Bool) where
-  pub answers_duplicate : s.flags ≡ 0 → upsert ≡ false → is_some (holder s.ranks ss) ≡ true → insert.Duplicate ≡ insertion s ss upsert
+  pub answers_duplicate : s.flags ≡ 0 → upsert ≡ false → is_some (holder s.ranks ss) ≡ true → Err Duplicate ≡ insertion s ss upsert
   answers_duplicate f u h = grind (arith, nat_tests)
 
-  pub answers_full : (upsert ≡ true) ⊎ (is_some (holder s.ranks ss) ≡ false) → 15 ≤ s.uses → insert.Full ≡ insertion s ss upsert
-  answers_full n u = grind (arith, nat_tests)
-
-  pub answers_success : s.flags ≡ 0 → (upsert ≡ true) ⊎ (is_some (holder s.ranks ss) ≡ false) → s.uses < 15 → insert.Success ≡ insertion s ss upsert
+  pub answers_success : s.flags ≡ 0 → (upsert ≡ true) ⊎ (is_some (holder s.ranks ss) ≡ false) → s.uses < 15 → Ok tt ≡ insertion s ss upsert
   answers_success f n u = grind (arith, nat_tests)
 
--- ---- an array of which the next use is held
+-- a filing that is refused
+pub refused : {K V : Type 0} (O : Order K) (a : Array) (slots : List (Slot K V)) (new : Slot K V) (upsert : Bool) (a' : Array) (e : Refusal) → Err e ≡ insertion (state_of a) (sides O new.key slots) upsert → state_of a' ≡ state_of a → Sorted O (ranks_of a.metadata) slots → Inserted O a slots new upsert a' slots (Err e)
+refused O a slots new upsert a' e answer same so = record { answer = answer; state = same; written = refl; sorted = subst (λ (s : State). Sorted O s.ranks slots) (sym same) so }
 
-module _ (a h : Array) (e : state_of h ≡ used (state_of a)) where
+-- ---- an array h that holds the next use of a
+
+module _ (a h : Array) (e : state_of h ≡ used (state_of a)) (room : ones a.bitmap < 15) where
+  abbrev uses : ℕ
+  uses = ones a.bitmap
+
   pub held_ranks : ranks_of h.metadata ≡ ranks_of a.metadata
   held_ranks = ap (λ s. s.ranks) e
 
   pub held_flags : flags_of h.metadata ≡ flags_of a.metadata
   held_flags = ap (λ s. s.flags) e
 
-  pub held_spare : ones a.bitmap < 15 → Spare (state_of h)
-  held_spare room =
-      let w = whole_out a.whole in
-      let u : ones a.bitmap + 1 - 1 ≡ ones a.bitmap = omega arith in
-      subst Spare (sym e) (ap (λ b. get_or (ranks_of a.metadata) (slot_pos b) 0) u ∙ w.unused (ones a.bitmap) (omega arith) room, λ p. omega (arith, w.bound p))
+  pub held_bound : (p : ℕ) → get_or (ranks_of h.metadata) p 0 ≤ uses
+  held_bound p = omega (arith, ap (λ rs. get_or rs p 0) held_ranks, (whole_out a.whole).bound p)
 
-  pub held_took : (word pos : ℕ) (spot : Spot) → ones a.bitmap < 15 → flags_of a.metadata ≡ 0 → pos ≡ slot_pos (ones a.bitmap) → Inside (ranks_of h.metadata) spot → Reads word (taken (ranks_of h.metadata) spot pos) (flags_of h.metadata) → Whole word h.bitmap
-  held_took word pos spot room z at i r =
-      let w = whole_out a.whole in
-      let rs = ranks_of h.metadata in
-      let u = ones a.bitmap in
-      let bound : (p : ℕ) → get_or rs p 0 ≤ u = λ p. omega (arith, ap (λ ds. get_or ds p 0) held_ranks, w.bound p) in
-      whole_took (whole_out h.whole) u word (taken rs spot (slot_pos u)) (ap (λ s. s.uses) e)
-      (ap is_retired (held_flags ∙ z))
-      (subst (λ p. Reads word (taken rs spot p) (flags_of h.metadata)) at r)
-      (took rs spot u (slot_pos u) (length_digits 15 h.metadata) (slot_lt u room) i bound (whole_out h.whole).apart)
-
-  pub held_state : (word pos : ℕ) (spot : Spot) → pos ≡ slot_pos (ones a.bitmap) → Reads word (taken (ranks_of h.metadata) spot pos) (flags_of h.metadata) → made (ranks_of word) (ones h.bitmap) (flags_of word) ≡ made (taken (ranks_of a.metadata) spot (slot_pos (ones a.bitmap))) (ones a.bitmap + 1) (flags_of a.metadata)
-  held_state word pos spot at r = made_same (r.ranks ∙ ap (λ rs. taken rs spot pos) held_ranks ∙ ap (taken (ranks_of a.metadata) spot) at) (ap (λ s. s.uses) e) (r.flags ∙ held_flags)
-
-  pub held_filled : (word pos : ℕ) (spot : Spot) → ones a.bitmap < 15 → flags_of a.metadata ≡ 0 → pos ≡ slot_pos (ones a.bitmap) → Inside (ranks_of a.metadata) spot → Reads word (taken (ranks_of h.metadata) spot pos) (flags_of h.metadata) → Filled (state_of a) (made (ranks_of word) (ones h.bitmap) (flags_of word))
-  held_filled word pos spot room z at i r =
-      let u = ones a.bitmap in
-      subst (Filled (state_of a)) (sym (held_state word pos spot at r)) (record { free = z; flags = z; uses = refl; live = taken_live (ranks_of a.metadata) spot (slot_pos u) (length_digits 15 a.metadata) (slot_lt u room) i })
-
-  pub held_sought : {K V : Type 0} (O : Order K) (slots : List (Slot K V)) (spot : Spot) (x y : K) → O.place x ≡ O.place y → (Sorted O (ranks_of h.metadata) slots → Sought (ranks_of h.metadata) (sides O x slots) spot) → Sorted O (ranks_of a.metadata) slots → Sought (ranks_of a.metadata) (sides O y slots) spot
-  held_sought O slots spot x y own f so = subst (λ ss. Sought (ranks_of a.metadata) ss spot) (own_sides O x y slots own) (subst (λ rs. Sought rs (sides O x slots) spot) held_ranks (f (subst (λ rs. Sorted O rs slots) (sym held_ranks) so)))
+  pub held_spare : Spare (state_of h)
+  held_spare =
+      let u : uses + 1 - 1 ≡ uses = omega arith in
+      subst Spare (sym e) (ap (λ b. get_or (ranks_of a.metadata) (slot_pos b) 0) u ∙ (whole_out a.whole).unused uses (omega arith) room, λ p. omega (arith, (whole_out a.whole).bound p))
 
   pub held_back : given (state_of h) ≡ state_of a
   held_back =
-      let u : ones a.bitmap + 1 - 1 ≡ ones a.bitmap = omega arith in
+      let u : uses + 1 - 1 ≡ uses = omega arith in
       ap given e ∙ ap (λ b. made (ranks_of a.metadata) b (flags_of a.metadata)) u
+
+  pub held_sought : {K V : Type 0} (O : Order K) (slots : List (Slot K V)) (spot : Result ℕ Gap) (x y : K) → O.place x ≡ O.place y → (Sorted O (ranks_of h.metadata) slots → Sought (ranks_of h.metadata) (sides O x slots) spot) → Sorted O (ranks_of a.metadata) slots → Sought (ranks_of a.metadata) (sides O y slots) spot
+  held_sought O slots spot x y own f so = subst (λ ss. Sought (ranks_of a.metadata) ss spot) (own_sides O x y slots own) (subst (λ rs. Sought rs (sides O x slots) spot) held_ranks (f (subst (λ rs. Sorted O rs slots) (sym held_ranks) so)))
+
+  -- the word once a key that was sought takes that use
+  module _ (word pos : ℕ) (spot : Result ℕ Gap) (z : flags_of a.metadata ≡ 0) (at : pos ≡ slot_pos uses) (i : Inside (ranks_of h.metadata) spot) (r : Reads word (taken (ranks_of h.metadata) spot pos) (flags_of h.metadata)) where
+    pub held_took : Whole word h.bitmap
+    held_took =
+        let w = whole_out h.whole in
+        let rs = ranks_of h.metadata in
+        whole_took w uses word (taken rs spot (slot_pos uses)) (ap (λ s. s.uses) e) (ap is_retired (held_flags ∙ z))
+        (subst (λ p. Reads word (taken rs spot p) (flags_of h.metadata)) at r)
+        (took rs spot uses (slot_pos uses) (length_digits 15 h.metadata) (slot_lt uses room) i held_bound w.apart)
+
+    pub held_inside : Inside (ranks_of a.metadata) spot
+    held_inside = subst (λ rs. Inside rs spot) held_ranks i
+
+    pub held_state : made (ranks_of word) (ones h.bitmap) (flags_of word) ≡ made (taken (ranks_of a.metadata) spot (slot_pos uses)) (uses + 1) (flags_of a.metadata)
+    held_state = made_same (r.ranks ∙ ap₂ (λ rs p. taken rs spot p) held_ranks at) (ap (λ s. s.uses) e) (r.flags ∙ held_flags)
+
+    pub held_filled : (s : State) → s ≡ made (ranks_of word) (ones h.bitmap) (flags_of word) → Filled (state_of a) s
+    held_filled s is = subst (Filled (state_of a)) (sym (is ∙ held_state)) (record { free = z; flags = z; uses = refl; live = taken_live (ranks_of a.metadata) spot (slot_pos uses) (length_digits 15 a.metadata) (slot_lt uses room) held_inside })
+
+-- ---- filing without a look at the other slots
+
+-- the word that is given, or else one with the greatest rank at the next use
+abbrev pub Given : Array → Option ℕ → ℕ → Type 0
+Given a metadata word = MatchOption metadata (Reads word (set (ranks_of a.metadata) (slot_pos (ones a.bitmap)) (ones a.bitmap + 1)) (flags_of a.metadata)) (λ w. word ≡ w)
+
+pub pushed_whole : (a : Array) (metadata : Option ℕ) (word : ℕ) → is_full (state_of a) ≡ false → Fits a metadata → Given a metadata word → Whole word (2 * a.bitmap + 1)
+pushed_whole a (Some w) word full f is = rw is f
+pushed_whole a None word full f r =
+    let w = whole_out a.whole in
+    let u = ones a.bitmap in
+    let room = not_full a full in
+    whole_took (whole_more w room.0) u word (set (ranks_of a.metadata) (slot_pos u) (u + 1)) (ones_more a.bitmap) room.1 r (took_last (ranks_of a.metadata) u (slot_pos u) (length_digits 15 a.metadata) (slot_lt u room.0) w.bound w.apart)
 
 -- ---- what filing leaves
 
-module _ {K V : Type 0} (O : Order K) (L : Ordered O) (a : Array) (slots : List (Slot K V)) (n : length slots ≡ 15) (new : Slot K V) (so : Sorted O (ranks_of a.metadata) slots) (spot : Spot) (i : Inside (ranks_of a.metadata) spot) (f : Sought (ranks_of a.metadata) (sides O new.key slots) spot) where
+module _ {K V : Type 0} (O : Order K) (L : Ordered O) (a : Array) (slots : List (Slot K V)) (n : length slots ≡ 15) (new : Slot K V) (so : Sorted O (ranks_of a.metadata) slots) (spot : Result ℕ Gap) (i : Inside (ranks_of a.metadata) spot) (f : Sought (ranks_of a.metadata) (sides O new.key slots) spot) where
   abbrev rs : List ℕ
   rs = ranks_of a.metadata
 
@@ -162,7 +170,7 @@ module _ {K V : Type 0} (O : Order K) (L : Ordered O) (a : Array) (slots : List 
   abbrev free : ℕ
   free = slot_pos (ones a.bitmap)
 
-  pub inserted : (upsert : Bool) (a' : Array) (slots' : List (Slot K V)) → ones a.bitmap < 15 → flags_of a.metadata ≡ 0 → (upsert ≡ true) ⊎ (there spot ≡ false) → state_of a' ≡ made (taken rs spot free) (ones a.bitmap + 1) (flags_of a.metadata) → slots' ≡ set slots free new → Inserted O a slots new upsert a' slots' insert.Success
+  pub inserted : (upsert : Bool) (a' : Array) (slots' : List (Slot K V)) → ones a.bitmap < 15 → flags_of a.metadata ≡ 0 → (upsert ≡ true) ⊎ (is_ok spot ≡ false) → state_of a' ≡ made (taken rs spot free) (ones a.bitmap + 1) (flags_of a.metadata) → slots' ≡ set slots free new → Inserted O a slots new upsert a' slots' (Ok tt)
   inserted upsert a' slots' room open-leaf m st wr =
       let w = whole_out a.whole in
       let hf = slot_lt (ones a.bitmap) room in
@@ -171,7 +179,7 @@ module _ {K V : Type 0} (O : Order K) (L : Ordered O) (a : Array) (slots : List 
       let x = effect rs ss spot free nr hf i (seen-from O L a slots n so new.key) f in
       let sorted = sorted_took O L rs (taken rs spot free) slots n so new (ones a.bitmap) free t x in
       record {
-        answer = answers_success (state_of a) ss upsert open-leaf (⊎_elim inl (λ z. inr (found_there O L a slots n so new.key spot i f ∙ z)) m) room;
+        answer = answers_success (state_of a) ss upsert open-leaf (⊎_elim inl (λ z. inr (found_some O L a slots n so new.key spot i f ∙ z)) m) room;
         state = st ∙ ap (λ r. made r (ones a.bitmap + 1) (flags_of a.metadata)) (filed_is O L a slots n so new.key spot free i f);
         written = wr;
         sorted = subst (λ r. Sorted O r slots') (sym (ap (λ s. s.ranks) st)) (subst (Sorted O (taken rs spot free)) (sym wr) sorted);

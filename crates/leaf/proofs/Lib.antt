@@ -5,4 +5,3 @@ pub mod Effects
 pub mod Holders
 pub mod Finds
 pub mod Files
-pub mod Strikes

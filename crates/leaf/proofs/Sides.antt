@@ -1,9 +1,10 @@
 -- The slots seen from a key, as numbers: what `compare` says of a slot, and what it comes to that ranks order keys.
 --     Arranged rs ss   ranks order keys, seen from one key: live ranks differ, and a live slot of a greater rank is after whatever one of a lower rank is not before
-use Rattle.std.proofs.Common.{◌≡◌, ℕ, zero, suc, ◌<◌, ◌≤◌, List, [], ◌∷◌, length, get_or, Some, Less, Equal, Greater, sym, refl, ap, ◌∙◌, inl, inr, arith}
+use Rattle.std.proofs.Common.{◌≡◌, ℕ, zero, suc, ◌<◌, ◌≤◌, List, [], ◌∷◌, length, get_or, Some, Less, Greater, sym, refl, ap, ◌∙◌, inl, inr, ⊎_elim, arith}
 use Rattle.std.specs.List.{slice_get}
-use Rattle.std.proofs.lemmas.List.{get_or-map}
-use Rattle.std.proofs.lemmas.Option.{slice_get-get_or}
+use Rattle.std.proofs.lemmas.Bool.{cases_lt}
+use Rattle.std.proofs.lemmas.List.{get_or-map, get_or_past}
+use Rattle.std.proofs.lemmas.Option.{get_or_from_slice_get}
 use Rattle.keys.specs.Orders.{Order, Ordered, Way, before, same, after, stands, answered, Agree}
 use Rattle.keys.specs.Places.{ways}
 use Rattle.ranks.specs.Indexes.{Apart}
@@ -14,6 +15,10 @@ pub record Arranged (rs ss : List ℕ) : Type 0 where
   pub apart : Apart rs
   pub rises : (p q : ℕ) → p < 15 → q < 15 → 0 < get_or rs p 0 → get_or rs p 0 < get_or rs q 0 → 1 ≤ get_or ss p 0 → 2 ≤ get_or ss q 0
 
+-- a live slot lies within
+pub live_within : (rs : List ℕ) → length rs ≡ 15 → (p : ℕ) → 0 < get_or rs p 0 → p < 15
+live_within rs n p l = ⊎_elim (λ h. h) (λ h. absurd (omega (arith, get_or_past rs p 0 (omega arith)))) (cases_lt p 15)
+
 -- ---- what `compare` answers
 
 less_side : (w : Way) → Less ≡ answered w → side_of w ≡ 2
@@ -21,28 +26,20 @@ less_side before e = refl
 less_side same e = cc
 less_side after e = cc
 
-equal_side : (w : Way) → Equal ≡ answered w → side_of w ≡ 1
-equal_side before e = cc
-equal_side same e = refl
-equal_side after e = cc
-
 greater_side : (w : Way) → Greater ≡ answered w → side_of w ≡ 0
 greater_side before e = cc
 greater_side same e = cc
 greater_side after e = refl
 
--- slot p, of which the code read the key: d is `c.index-slots-pos.result`; O is the keys' order, P the query's
-module _ {K V : Type 0} (O P : Order K) (agree : Agree P O) (x : K) (slots : List (Slot K V)) (n : length slots ≡ 15) (p : ℕ) (h : p < 15) (d : Slot K V) where
-  read : get_or (sides O x slots) p 0 ≡ side_of (stands P x (get_or slots p d).key)
-  read = get_or-map (side O x) slots p d 0 (omega arith) ∙ ap side_of (sym (agree x (get_or slots p d).key))
+-- slot s at p, as the pass reads it; O is the keys' order, P the query's
+module _ {K V : Type 0} (O P : Order K) (agree : Agree P O) (x : K) (slots : List (Slot K V)) (n : length slots ≡ 15) (p : ℕ) (h : p < 15) (s : Slot K V) (is : s ≡ get_or slots p s) where
+  read : get_or (sides O x slots) p 0 ≡ side_of (stands P x s.key)
+  read = get_or-map (side O x) slots p s 0 (omega arith) ∙ ap (side O x) (sym is) ∙ ap side_of (sym (agree x s.key))
 
-  pub answered_less : Less ≡ answered (stands P x (get_or slots p d).key) → 2 ≤ get_or (sides O x slots) p 0
+  pub answered_less : Less ≡ answered (stands P x s.key) → 2 ≤ get_or (sides O x slots) p 0
   answered_less e = omega (arith, read ∙ less_side _ e)
 
-  pub answered_equal : Equal ≡ answered (stands P x (get_or slots p d).key) → get_or (sides O x slots) p 0 ≡ 1
-  answered_equal e = read ∙ equal_side _ e
-
-  pub answered_greater : Greater ≡ answered (stands P x (get_or slots p d).key) → get_or (sides O x slots) p 0 ≡ 0
+  pub answered_greater : Greater ≡ answered (stands P x s.key) → get_or (sides O x slots) p 0 ≡ 0
   answered_greater e = read ∙ greater_side _ e
 
 -- ---- sides
@@ -64,11 +61,7 @@ nth_in (y ∷ ys) (suc i) l = nth_in ys i (omega arith)
 
 module _ {K V : Type 0} (O : Order K) (slots : List (Slot K V)) (n : length slots ≡ 15) where
   pub side_at : (x : K) (p : ℕ) (s : Slot K V) → p < 15 → slice_get slots p ≡ Some s → get_or (sides O x slots) p 0 ≡ side O x s
-  side_at x p s h e =
-      let f = get_or-map (side O x) slots p s 0 (omega arith) in
-      let g = slice_get-get_or slots p s (omega arith) in
-      let i : get_or slots p s ≡ s = cc in
-      f ∙ ap (side O x) i
+  side_at x p s h e = get_or-map (side O x) slots p s 0 (omega arith) ∙ ap (side O x) (get_or_from_slice_get slots p s s e)
 
   -- from x, what is after something not before x is after x
   later : Ordered O → (x a b : K) → 1 ≤ side_of (stands O x a) → stands O a b ≡ before → 2 ≤ side_of (stands O x b)

@@ -1,13 +1,15 @@
 -- The pass over the slots of a leaf that looks for a key, over ranks and sides alone.
 --     Seen rs ss low high pos     what is known after the slots below pos: ranks up to low are before the key, those from high on after it
---     Tame rs low high best       what holds whatever the slots hold
-use Rattle.std.proofs.Common.{◌≡◌, ℕ, ◌+◌, ◌-◌, ◌<◌, ◌≤◌, ◌⊎◌, List, get_or, drop, sym, refl, ap, ◌∙◌, subst, inl, inr, ⊎_elim, arith, below_more}
-use Rattle.std.proofs.lemmas.List.{get_or-drop}
+--     Tame rs low high next       what holds whatever the slots hold
+use Rattle.std.proofs.Common.{◌≡◌, ℕ, ◌+◌, ◌*◌, ◌/◌, ◌%◌, ◌^◌, ◌<◌, ◌≤◌, ◌⊎◌, List, get_or, Some, None, Option, MatchOption, Err, sym, refl, ap, ◌∙◌, subst, inl, inr, ⊎_elim, arith, below_more, pow_mono}
+use Rattle.std.proofs.Math.Nat.{lt-div-mul-add, div-eq_of_lt}
+use Rattle.std.proofs.lemmas.Nat.{pow_pos}
+use Rattle.std.proofs.lemmas.List.{get_or_past}
 use Rattle.std.proofs.lemmas.Bool.{cases_eq, cases_lt}
-use Rattle.ranks.specs.Words.{encode}
-use Rattle.leaf.specs.Seeks.{Level, Parted}
+use Rattle.ranks.specs.Words.{ranks_of}
+use Rattle.ranks.proofs.Words.{length_digits, get_or_digits}
+use Rattle.leaf.specs.Seeks.{Level, Inside, Parted}
 use Rattle.leaf.proofs.Sides.{Arranged}
-use Rattle.ranks.proofs.Words.{encode_zero}
 
 -- ---- one turn
 
@@ -56,47 +58,57 @@ module _ {rs ss : List ℕ} {low high pos : ℕ} (in_leaf : pos < 15) (o : Arran
     mine = λ q h e. omega (arith, o.apart pos q (omega arith) (sym e));
   }
 
--- ---- the end: no rank is left
+-- ---- the end: no rank is left from slot pos on
 
-pub seen_all : {rs ss : List ℕ} {low high pos : ℕ} → Seen rs ss low high pos → encode (drop pos rs) ≡ 0 → (q : ℕ) → low < get_or rs q 0 → high ≤ get_or rs q 0
-seen_all {rs} {ss} {low} {high} {pos} s e q l = ⊎_elim
-    (λ h. s.known q h l)
-    (λ h. absurd (let z = encode_zero (drop pos rs) (q - pos) e in
-    let i : pos + (q - pos) ≡ q = omega arith in
-    let d = get_or-drop pos rs (q - pos) 0 ∙ ap (λ j. get_or rs j 0) i in omega arith))
-    (cases_lt q pos)
+shifted_out : (w i j : ℕ) → w / 2 ^ i ≡ 0 → i ≤ j → w / 2 ^ j ≡ 0
+shifted_out w i j z h =
+    let p : 2 ^ i ≤ 2 ^ j = pow_mono h in
+    let l = lt-div-mul-add {a = w} {b = 2 ^ i} (pow_pos i) in
+    div-eq_of_lt (omega (arith, ap (λ x. x * 2 ^ i) z))
+
+abbrev pub NoneLeft : List ℕ → ℕ → Type 0
+NoneLeft rs pos = (q : ℕ) → pos ≤ q → get_or rs q 0 ≡ 0
+
+pub none_past : (w pos : ℕ) → 15 ≤ pos → NoneLeft (ranks_of w) pos
+none_past w pos n q h = get_or_past (ranks_of w) q 0 (omega (arith, length_digits 15 w))
+
+pub none_above : (w pos : ℕ) → w / 2 ^ (4 * pos) ≡ 0 → NoneLeft (ranks_of w) pos
+none_above w pos z q h = ⊎_elim
+    (λ l. get_or_digits 15 w q l ∙ ap (λ x. x % 16) (shifted_out w (4 * pos) (4 * q) z (omega arith)))
+    (λ l. none_past w q l q (omega arith))
+    (cases_lt q 15)
+
+seen_all : {rs ss : List ℕ} {low high pos : ℕ} → NoneLeft rs pos → Seen rs ss low high pos → (q : ℕ) → low < get_or rs q 0 → high ≤ get_or rs q 0
+seen_all {rs} {ss} {low} {high} {pos} n s q l = ⊎_elim (λ h. s.known q h l) (λ h. absurd (omega (arith, n q h))) (cases_lt q pos)
 
 -- ---- what holds whatever the slots hold
 
-pub record Tame (rs : List ℕ) (low high best : ℕ) : Type 0 where
+pub record Tame (rs : List ℕ) (low high : ℕ) (next : Option ℕ) : Type 0 where
   pub level : Level rs low
   pub under : low < high
-  pub small : best ≤ 15
-  pub found : best < 15 → get_or rs best 0 ≡ high
-  pub none : 15 ≤ best → 16 ≤ high
+  pub found : MatchOption next (16 ≤ high) (λ best. (best < 15) × (get_or rs best 0 ≡ high))
 
-pub tame_none : (rs : List ℕ) → Tame rs 0 255 15
-tame_none rs = record { level = inl refl; under = omega arith; small = omega arith; found = λ h. absurd (omega arith); none = λ h. omega arith }
+pub tame_none : (rs : List ℕ) → Tame rs 0 255 None
+tame_none rs = record { level = inl refl; under = omega arith; found = omega arith }
 
-module _ {rs : List ℕ} {low high best pos rank : ℕ} (t : Tame rs low high best) (in_leaf : pos < 15) (r : rank ≡ get_or rs pos 0) where
-  pub tame_less : low < rank → Tame rs low rank pos
-  tame_less l = record { level = t.level; under = l; small = omega arith; found = λ h. sym r; none = λ h. absurd (omega arith) }
+module _ {rs : List ℕ} {low high pos rank : ℕ} {next : Option ℕ} (t : Tame rs low high next) (in_leaf : pos < 15) (r : rank ≡ get_or rs pos 0) where
+  pub tame_less : low < rank → Tame rs low rank (Some pos)
+  tame_less l = record { level = t.level; under = l; found = (in_leaf, sym r) }
 
-  pub tame_greater : rank < high → Tame rs rank high best
-  tame_greater l = record { level = inr (pos, in_leaf, sym r); under = l; small = t.small; found = t.found; none = t.none }
+  pub tame_greater : rank < high → Tame rs rank high next
+  tame_greater l = record { level = inr (pos, in_leaf, sym r); under = l; found = t.found }
 
-pub tame_at : {rs : List ℕ} {low high best low' high' best' : ℕ} → low' ≡ low → high' ≡ high → best' ≡ best → Tame rs low high best → Tame rs low' high' best'
-tame_at {rs} {low} {high} {best} {low'} {high'} {best'} a b c s = subst (λ x. Tame rs x high' best') (sym a) (subst (λ y. Tame rs low y best') (sym b) (subst (λ z. Tame rs low high z) (sym c) s))
+pub tame_inside : {rs : List ℕ} {low high : ℕ} (next : Option ℕ) → Tame rs low high next → Inside rs (Err (record { low = low; next = next }))
+tame_inside None t = (t.level, tt)
+tame_inside (Some best) t = (t.level, (t.found.0, omega (arith, t.found.1, t.under)))
 
-pub parted : {rs ss : List ℕ} {low high best pos : ℕ} → ((i : ℕ) → get_or rs i 0 < 16) → Tame rs low high best → Seen rs ss low high pos → encode (drop pos rs) ≡ 0 → Parted rs ss low best
-parted {rs} {ss} {low} {high} {best} {pos} u t s e = record {
-  below = λ x h l b. s.below x h l b;
-  above = λ x h l. s.above x h (seen_all s e x l);
-  least = λ h. (omega (arith, t.found h, t.under), λ x hx l. omega (arith, t.found h, seen_all s e x l));
-  last = λ h x hx. ⊎_elim (λ l. absurd (omega (arith, u x, t.none h, seen_all s e x l))) (λ l. l) (cases_lt low (get_or rs x 0));
+pub parted : {rs ss : List ℕ} {low high pos : ℕ} (next : Option ℕ) → NoneLeft rs pos → ((i : ℕ) → get_or rs i 0 < 16) → Tame rs low high next → Seen rs ss low high pos → Parted rs ss low next
+parted {rs} {ss} {low} {high} next n u t s = record {
+  below = s.below;
+  above = λ p h l. s.above p h (seen_all n s p l);
+  least = least next t;
 }
-
--- ---- what the code calls the new bounds
-
-pub seen_at : {rs ss : List ℕ} {low high low' high' pos : ℕ} → low' ≡ low → high' ≡ high → Seen rs ss low high pos → Seen rs ss low' high' pos
-seen_at {rs} {ss} {low} {high} {low'} {high'} {pos} a b s = subst (λ x. Seen rs ss x high' pos) (sym a) (subst (λ y. Seen rs ss low y pos) (sym b) s)
+  where
+    least : (o : Option ℕ) → Tame rs low high o → MatchOption o ((p : ℕ) → p < 15 → get_or rs p 0 ≤ low) (λ best. (low < get_or rs best 0) × ((p : ℕ) → p < 15 → low < get_or rs p 0 → get_or rs best 0 ≤ get_or rs p 0))
+    least None t = λ p h. ⊎_elim (λ l. absurd (omega (arith, u p, t.found, seen_all n s p l))) (λ l. l) (cases_lt low (get_or rs p 0))
+    least (Some best) t = (omega (arith, t.found.1, t.under), λ p h l. omega (arith, t.found.1, seen_all n s p l))

@@ -1,16 +1,16 @@
 -- What a record keeps: taken out of its ghost field, and kept by each change of the word and the bitmap.
-use Rattle.std.proofs.Common.{◌≡◌, ℕ, zero, suc, ◌+◌, ◌-◌, ◌*◌, ◌/◌, ◌%◌, ◌^◌, ◌<◌, ◌≤◌, Bool, true, false, cond, ◌&&◌, ◌||◌, eqb, ◌⊎◌, List, [], ◌∷◌, get_or, set, replicate, sym, refl, ap, ◌∙◌, subst, inl, inr, ⊎_elim, arith, pow_mono}
+use Rattle.std.proofs.Common.{◌≡◌, ℕ, zero, suc, ◌+◌, ◌-◌, ◌*◌, ◌/◌, ◌%◌, ◌^◌, ◌<◌, ◌≤◌, Bool, true, false, cond, ◌&&◌, eqb, ◌⊎◌, List, [], ◌∷◌, get_or, set, replicate, sym, refl, ap, ◌∙◌, subst, inl, inr, ⊎_elim, arith, pow_mono}
 use mathlib.Core.Logic.{∥∥₁_elim}
 use native.Mathlib.Bridge.{le_prop}
 use base.Stored.{Coded-set, coded_ℕ, coded_bool}
 use lib.Count.{ones}
 use Rattle.std.proofs.lemmas.Nat.{pow-add, pow_pos}
-use Rattle.std.proofs.lemmas.Bool.{cases_eq, and_parts, and_from}
+use Rattle.std.proofs.lemmas.Bool.{cases_eq, eqb-true, and_parts, and_from}
 use Rattle.std.proofs.lemmas.Bool.Decides.{nat_tests}
 use Rattle.ranks.specs.Dimensions.{slot_pos}
 use Rattle.ranks.specs.Words.{digits, ranks_of, flags_of, is_retired, is_empty, Reads, cleared_flags}
 use Rattle.ranks.specs.Indexes.{Apart}
-use Rattle.ranks.proofs.Words.{encode_zero, encode_digits}
+use Rattle.ranks.proofs.Words.{encode_zero, encode_digits, word_split, empty_encode}
 use Rattle.ranks.proofs.Uses.{ones_more, slot_once}
 use Rattle.leaf.specs.Records.{Whole}
 use Rattle.leaf.specs.Rules.{State, state_of, Spare}
@@ -18,13 +18,11 @@ use Rattle.leaf.specs.Calls.{is_full}
 use Rattle.leaf.specs.declared.array.Array.{Array}
 use Rattle.leaf.proofs.Effects.{Took}
 
-or_false : (s t : Bool) → (s || t) ≡ false → (s ≡ false) × (t ≡ false)
-or_false true t e = grind arith
-or_false false t e = (refl, e)
+abbrev pub made : List ℕ → ℕ → ℕ → State
+made rs u f = record { ranks = rs; uses = u; flags = f }
 
--- the state of an array, with u uses
-abbrev pub counted : Array → ℕ → State
-counted a u = record { ranks = ranks_of a.metadata; uses = u; flags = flags_of a.metadata }
+pub made_same : {rs rs' : List ℕ} {u u' f f' : ℕ} → rs ≡ rs' → u ≡ u' → f ≡ f' → made rs u f ≡ made rs' u' f'
+made_same {rs} {rs'} {u} {u'} {f} {f'} x y z = ap (λ r. made r u f) x ∙ ap (λ k. made rs' k f) y ∙ ap (made rs' u') z
 
 pub spare_some : (s : State) → Spare s → 0 < s.uses
 spare_some s h = omega (arith, h.1 0)
@@ -179,7 +177,13 @@ module _ {m b : ℕ} (w : Whole m b) where
         retired = λ e. ap is_empty r.ranks ∙ cleared_retired (is_empty (set rs p 0)) (flags_of m) (λ t. empty_set rs p (w.retired t)) (sym (ap is_retired r.flags) ∙ e);
       }
 
+-- the word of an array that is retired, and not frozen
+pub retired_word : {m b : ℕ} → Whole m b → flags_of m ≡ 4 → m ≡ 2 ^ 62
+retired_word {m} {b} w f =
+    let e = eqb-true _ 0 (empty_encode (ranks_of m) ∙ w.retired (ap is_retired f)) in
+    omega (arith, word_split m)
+
 -- ---- room for one use more
 
 pub not_full : (a : Array) → is_full (state_of a) ≡ false → (ones a.bitmap < 15) × (is_retired (flags_of a.metadata) ≡ false)
-not_full a h = let l = (whole_out a.whole).few in let p = or_false (eqb (ones a.bitmap) 15) _ h in (grind (arith, nat_tests), p.1)
+not_full a h = let l = (whole_out a.whole).few in (grind (arith, nat_tests), grind (arith, nat_tests))

@@ -4,6 +4,8 @@
 // slots are lent at each call.
 ghost use Rattle.leaf.specs.Records.{Whole};
 
+// Callers read the word and the bitmap themselves, so this is a record with a ghost field, and no `impl Model`: `state_of` (specs/Rules) says
+// what it stands for.
 #[derive(Clone, Copy)]
 pub struct Array {
     // The rank word.

@@ -1,55 +1,83 @@
-// Guards on the record of a leaf array: what they took back at the end of their scope, on every way out.
+// A guard on the record of a leaf array: a step that it takes at the end of its scope, on every way out.
 //
-// Ported from `exit_guard.rs` of scc 3.8.8 (Apache-2.0), and changed: in place of one guard that runs a closure there is a type for
-// each of its uses.
+// Ported from `exit_guard.rs` of scc 3.8.8 (Apache-2.0), and changed: what is captured is always a leaf array, and what runs at the end
+// is a named step in place of a closure.
 ghost use Rattle.std.specs.Prelude.{◌≡◌};
-ghost use Rattle.leaf.specs.Rules.{state_of, given, Spare, thawed};
+ghost use Rattle.leaf.specs.Rules.{State, state_of, given, Spare, thawed};
 
 use crate::array::Array;
+use std::marker::PhantomData;
 
-// Holds the use that was taken last, and gives it back.
-pub struct UseGuard<'a> {
-    pub array: &'a mut Array,
+// What a guard does at its end.
+pub trait OnExit {
+    // when it may be done
+    ghost May: { State → Type 0 };
+
+    // what it leaves
+    ghost left: { State → State };
+
+    fn exit(array: &mut Array)
+        requires { May (state_of array.old) }
+        ensures { state_of array.new ≡ left (state_of array.old) };
 }
 
-impl Drop for UseGuard<'_> {
-    fn drop(self)
-        requires { Spare (state_of self.array.now) }
-        ensures { state_of self.exit.0.now ≡ given (state_of self.entry.array.now) }
-    {
-        self.array.bitmap /= 2;
-        let UseGuard { array: _ } = self;
+// Gives the use back that was taken last.
+pub struct GiveBack;
+
+impl OnExit for GiveBack {
+    ghost May = { Spare };
+
+    ghost left = { given };
+
+    fn exit(array: &mut Array) {
+        array.bitmap /= 2;
     }
 }
 
-impl UseGuard<'_> {
-    // The use stays taken.
+// Unfreezes the array.
+pub struct Unfreeze;
+
+impl OnExit for Unfreeze {
+    ghost May = { λ _. Unit {0} };
+
+    ghost left = { thawed };
+
+    fn exit(array: &mut Array) {
+        array.unfreeze();
+    }
+}
+
+// Holds an array, and takes the step E at its end.
+pub struct ExitGuard<'a, E: OnExit> {
+    pub array: &'a mut Array,
+    step: PhantomData<E>,
+}
+
+impl<'a, E: OnExit> Drop for ExitGuard<'a, E> {
+    fn drop(self)
+        requires { E.OnExit.May (state_of self.array.now) }
+        ensures { state_of self.exit.0.now ≡ E.OnExit.left (state_of self.entry.array.now) }
+    {
+        let ExitGuard { array, step: _ } = self;
+        E::exit(array);
+    }
+}
+
+impl<'a, E: OnExit> ExitGuard<'a, E> {
+    pub fn new(array: &'a mut Array) -> ExitGuard<'a, E>
+        ensures same_array { result.array.ghost_name ≡ array.entry.ghost_name }
+        ensures kept { result.array.now ≡ array.old }
+    {
+        ExitGuard {
+            array,
+            step: PhantomData,
+        }
+    }
+
+    // The step is not taken.
     pub fn forget(self)
         ensures { self.exit.0.now ≡ self.entry.array.now }
     {
-        let UseGuard { array: _kept } = self;
-    }
-}
-
-// Keeps an array frozen, and unfreezes it.
-pub struct FreezeGuard<'a> {
-    pub array: &'a mut Array,
-}
-
-impl Drop for FreezeGuard<'_> {
-    fn drop(self)
-        ensures { state_of self.exit.0.now ≡ thawed (state_of self.entry.array.now) }
-    {
-        self.array.unfreeze();
-        let FreezeGuard { array: _ } = self;
-    }
-}
-
-impl FreezeGuard<'_> {
-    // The array stays frozen.
-    pub fn forget(self)
-        ensures { self.exit.0.now ≡ self.entry.array.now }
-    {
-        let FreezeGuard { array: _kept } = self;
+        let ExitGuard { array: _, step: _ } = self;
     }
 }

@@ -1,27 +1,30 @@
 // The calls of a leaf array.
 //
 // Ported from `tree_index/leaf.rs` of scc 3.8.8 (Apache-2.0), and changed: one owner, plain numbers in place of atomics, slots that
-// are lent at each call, a flag in place of `UPSERT`, and a condition in place of a closure.
-ghost use Rattle.std.specs.Prelude.{◌≡◌, ◌<◌, true, false, reverse, length, set, Some, None, ◌≢◌};
+// are lent at each call, a flag in place of `UPSERT`, a condition in place of a closure, and a refusal as the error of a `Result`.
+ghost use Rattle.std.specs.Prelude.{◌≡◌, ℕ, ◌+◌, ◌*◌, ◌<◌, true, false, reverse, length, set, Some, None, Err, IfOk, OnOk, IfErr, OnErr, slice_index};
 ghost use Rattle.ranks.specs.Dimensions.{leaf_length, slot_pos};
 ghost use Rattle.ranks.specs.Words.{is_frozen};
 ghost use Rattle.ranks.specs.Indexes.{ahead, behind, given, InOrder};
 ghost use Rattle.ranks.specs.Boundaries.{by_use, live_count, rises, boundary_of};
 ghost use Rattle.leaf.specs.Slots.{sides, Sorted};
-ghost use Rattle.leaf.specs.Rules.{state_of, holder, used, frozen, thawed, filed, struck, Live, LeastFrom};
-ghost use Rattle.leaf.specs.Calls.{fresh, is_full, entry_at, insert_number, insertion, Unchanged, Inserted, Filled, Fits, pushed, remove_number, outcome, Struck, Removed};
+ghost use Rattle.leaf.specs.Rules.{state_of, holder, used, Spare, frozen, thawed, filed, struck, Live, LeastFrom};
+ghost use Rattle.leaf.specs.Calls.{FilingRefusal, StrikeRefusal, fresh, is_full, entry_at, insertion, Unchanged, Inserted, Filled, Fits, pushed, outcome, Struck, Removed};
 
 use crate::array::Array;
-use crate::data_block::{Slot, write};
-use crate::exit_guard::UseGuard;
-use crate::result::{InsertResult, RemoveResult};
-use crate::seek::{Spot, word_with};
+use crate::data_block::Slot;
+use crate::exit_guard::{ExitGuard, GiveBack};
+use crate::result::RemoveOutcome;
+use crate::seek::word_with;
 use keys::condition::Condition;
 use keys::equivalent::{Comparable, Equivalent};
+use keys::refusal::Refusal;
 use ranks::array_iter::ArrayIter;
 use ranks::dimension::{FLAGS, LEN, RETIRED, cleared, is_frozen, is_retired, slot_pos, with_rank};
 use ranks::{boundary, dimension};
 
+// Slots are lent at each call, and may hold anything: so each call that looks at them asks for itself that they are fifteen, and says
+// what it does where ranks order their keys.
 impl Array {
     pub fn new() -> Array
         ensures { state_of result ≡ fresh }
@@ -50,9 +53,22 @@ impl Array {
     // Takes the next use.
     fn take_use(&mut self)
         requires { (state_of self.old).uses < leaf_length }
-        ensures { state_of self.new ≡ used (state_of self.old) }
+        ensures bitmap { self.new.bitmap ≡ 2 * self.old.bitmap + 1 }
+        ensures state { state_of self.new ≡ used (state_of self.old) }
     {
         self.bitmap = 2 * self.bitmap + 1;
+    }
+
+    // Takes the next use, for a guard to give back.
+    fn hold_use(&mut self) -> ExitGuard<'_, GiveBack>
+        requires { (state_of self.old).uses < leaf_length }
+        ensures same_array { result.array.ghost_name ≡ self.entry.ghost_name }
+        ensures held { state_of result.array.now ≡ used (state_of self.old) }
+        ensures spare { Spare (state_of result.array.now) }
+        ensures room { (p : ℕ) → slice_index (state_of result.array.now).ranks p < leaf_length }
+    {
+        self.take_use();
+        ExitGuard::new(self)
     }
 
     // No use is left, or the array is retired.
@@ -74,7 +90,7 @@ impl Array {
         self.metadata = dimension::unfreeze(self.metadata);
     }
 
-    // The boundary of a split, the live count, and whether all the slots of a full leaf ascend in order of use.
+    // The boundary of a split, the live count, and whether all the slots of a full leaf ascend in order of use, together as in the original.
     pub fn optimal_boundary(&self) -> (u8, u8, bool)
         ensures { result ≡ boundary_of (live_count (by_use (state_of self.now).ranks 0 (state_of self.now).uses)) (rises 0 (by_use (state_of self.now).ranks 0 (state_of self.now).uses)) }
     {
@@ -91,10 +107,7 @@ impl Array {
         ensures live { Live (state_of self.now).ranks result }
         ensures found { Sorted K.Equivalent.order (state_of self.now).ranks slots.now → result ≡ holder (state_of self.now).ranks (sides K.Equivalent.order (Q.Equivalent.spells key.now) slots.now) }
     {
-        match self.seek(slots, key) {
-            Spot::Same(pos) => Some(pos),
-            Spot::Between(_, _) => None,
-        }
+        self.seek(slots, key).ok()
     }
 
     // The live entry at the place of `key`.
@@ -106,10 +119,7 @@ impl Array {
         requires { length slots.now ≡ leaf_length }
         ensures { Sorted K.Equivalent.order (state_of self.now).ranks slots.now → result ≡ entry_at (holder (state_of self.now).ranks (sides K.Equivalent.order (Q.Equivalent.spells key.now) slots.now)) slots.now }
     {
-        match self.search_slot(slots, key) {
-            Some(pos) => Some(slots[pos]),
-            None => None,
-        }
+        self.search_slot(slots, key).map(|pos| slots[pos])
     }
 
     // The live slot of the least rank that is not before the place of `key`.
@@ -122,64 +132,58 @@ impl Array {
         ensures live { Live (state_of self.now).ranks result }
         ensures least { Sorted K.Equivalent.order (state_of self.now).ranks slots.now → LeastFrom (state_of self.now).ranks (sides K.Equivalent.order (Q.Equivalent.spells key.now) slots.now) result }
     {
-        match self.seek(slots, key) {
-            Spot::Same(pos) => Some(pos),
-            Spot::Between(_, pos) => { if pos < LEN { Some(pos) } else { None } }
-        }
+        self.seek(slots, key).map_or_else(|gap| gap.next, Some)
     }
 
-    // What filing answers where no use is left.
+    // Why filing is refused where no use is left.
     fn full_or_duplicate<K: Comparable<K>, V>(
         &self,
         slots: &[Slot<K, V>],
         key: &K,
         upsert: bool,
-    ) -> InsertResult
+    ) -> Refusal
         requires size { length slots.now ≡ leaf_length }
         requires full { (state_of self.now).uses ≡ leaf_length }
-        ensures refused { insert_number result ≢ 0 }
-        ensures answer { Sorted K.Equivalent.order (state_of self.now).ranks slots.now → result ≡ insertion (state_of self.now) (sides K.Equivalent.order key.now slots.now) upsert }
+        ensures refused { FilingRefusal result }
+        ensures answer { Sorted K.Equivalent.order (state_of self.now).ranks slots.now → Err result ≡ insertion (state_of self.now) (sides K.Equivalent.order key.now slots.now) upsert }
     {
-        if upsert || self.metadata >= FLAGS {
-            return InsertResult::Full;
-        }
-        match self.search_slot(slots, key) {
-            Some(_) => InsertResult::Duplicate,
-            None => InsertResult::Full,
+        if !upsert && self.metadata < FLAGS && self.search_slot(slots, key).is_some() {
+            Refusal::Duplicate
+        } else {
+            Refusal::Full
         }
     }
 
-    // Files `key` with `val` at the next use. Where `upsert` is set, a live slot at its place hands its rank over.
+    // Files `entry` at the next use. Where `upsert` is set, a live slot at the place of its key hands its rank over.
     pub fn insert<K: Comparable<K> + Copy, V: Copy>(
         &mut self,
         slots: &mut [Slot<K, V>],
-        key: K,
-        val: V,
+        entry: Slot<K, V>,
         upsert: bool,
-    ) -> InsertResult
+    ) -> Result<(), Refusal>
         requires { length slots.old ≡ leaf_length }
-        ensures unchanged { Unchanged K.Equivalent.order self.old slots.old (record { key = key; val = val }) upsert self.new slots.new result }
-        ensures filled { insert_number result ≡ 0 → Filled (state_of self.old) (state_of self.new) }
-        ensures inserted { Sorted K.Equivalent.order (state_of self.old).ranks slots.old → Inserted K.Equivalent.order self.old slots.old (record { key = key; val = val }) upsert self.new slots.new result }
+        ensures refused { IfErr result FilingRefusal }
+        ensures unchanged { Unchanged K.Equivalent.order self.old slots.old entry upsert self.new slots.new result }
+        ensures filled { OnOk result (Filled (state_of self.old) (state_of self.new)) }
+        ensures inserted { Sorted K.Equivalent.order (state_of self.old).ranks slots.old → Inserted K.Equivalent.order self.old slots.old entry upsert self.new slots.new result }
     {
         let bitmap_pos = self.uses();
         if bitmap_pos == LEN {
-            return self.full_or_duplicate(slots, &key, upsert);
+            return Err(self.full_or_duplicate(slots, &entry.key, upsert));
         }
-        self.take_use();
-        let guard = UseGuard { array: self };
+        let guard = self.hold_use();
         if guard.array.metadata >= FLAGS {
-            return InsertResult::Full;
+            return Err(Refusal::Full);
         }
-        let spot = guard.array.seek(slots, &key);
-        if !upsert && spot.is_same() {
-            return InsertResult::Duplicate;
+        let spot = guard.array.seek(slots, &entry.key);
+        if !upsert && spot.is_ok() {
+            return Err(Refusal::Duplicate);
         }
         let pos = slot_pos(bitmap_pos);
         guard.array.metadata = word_with(guard.array.metadata, spot, pos);
-        write(slots, pos, key, val);
+        slots[pos] = entry;
         guard.forget();
-        InsertResult::Success
+        Ok(())
     }
 
     // The next use, and the word once `key` takes it.
@@ -202,13 +206,12 @@ impl Array {
         )
     }
 
-    // Files `key` at the next use, `bitmap_pos`, with no look at the other slots: with the word that is given, or else with the
+    // Files `entry` at the next use, `bitmap_pos`, with no look at the other slots: with the word that is given, or else with the
     // greatest rank. Answers the slot.
     pub fn insert_unchecked<K: Copy, V: Copy>(
         &mut self,
         slots: &mut [Slot<K, V>],
-        key: K,
-        val: V,
+        entry: Slot<K, V>,
         bitmap_pos: usize,
         metadata: Option<u64>,
     ) -> usize
@@ -218,32 +221,31 @@ impl Array {
         requires fits { Fits self.old metadata }
         ensures pos { result ≡ slot_pos bitmap_pos }
         ensures state { state_of self.new ≡ pushed metadata (state_of self.old) }
-        ensures written { slots.new ≡ set slots.old result (record { key = key; val = val }) }
+        ensures written { slots.new ≡ set slots.old result entry }
     {
         let pos = slot_pos(bitmap_pos);
-        write(slots, pos, key, val);
-        let word = match metadata {
-            Some(word) => word,
-            None => with_rank(self.metadata, pos, (bitmap_pos + 1) as u8),
-        };
-        *self = Array {
-            metadata: word,
-            bitmap: 2 * self.bitmap + 1,
-        };
+        slots[pos] = entry;
+        let word = metadata.unwrap_or_else(|| with_rank(
+            self.metadata,
+            pos,
+            (bitmap_pos + 1) as u8,
+        ));
+        self.take_use();
+        self.metadata = word;
         pos
     }
 
     // Strikes the slot at `pos`, with no look at its key.
-    pub fn remove_unchecked(&mut self, pos: usize) -> RemoveResult
+    pub fn remove_unchecked(&mut self, pos: usize) -> RemoveOutcome
         requires { pos < leaf_length }
         ensures answer { result ≡ outcome (struck pos (state_of self.old)) }
         ensures state { state_of self.new ≡ struck pos (state_of self.old) }
     {
         self.metadata = cleared(self.metadata, pos);
         if self.metadata == RETIRED {
-            RemoveResult::Retired
+            RemoveOutcome::Retired
         } else {
-            RemoveResult::Success
+            RemoveOutcome::Success
         }
     }
 
@@ -253,23 +255,24 @@ impl Array {
         slots: &[Slot<K, V>],
         key: &Q,
         condition: &mut C,
-    ) -> RemoveResult
+    ) -> Result<RemoveOutcome, Refusal>
         requires { length slots.now ≡ leaf_length }
-        ensures unchanged { (remove_number result ≢ 0) → state_of self.new ≡ state_of self.old }
-        ensures struck { remove_number result ≡ 0 → Struck (state_of self.old) (state_of self.new) result }
+        ensures refused { IfErr result StrikeRefusal }
+        ensures unchanged { OnErr result (state_of self.new ≡ state_of self.old) }
+        ensures struck { IfOk result (Struck (state_of self.old) (state_of self.new)) }
         ensures frozen { is_frozen (state_of self.old).flags ≡ true → Removed K.Equivalent.order C.Condition.verdict C.Condition.after self.old condition.old (Q.Equivalent.spells key.now) slots.now self.new condition.new result }
         ensures removed { Sorted K.Equivalent.order (state_of self.old).ranks slots.now → Removed K.Equivalent.order C.Condition.verdict C.Condition.after self.old condition.old (Q.Equivalent.spells key.now) slots.now self.new condition.new result }
         ensures sorted { Sorted K.Equivalent.order (state_of self.old).ranks slots.now → Sorted K.Equivalent.order (state_of self.new).ranks slots.now }
     {
         if is_frozen(self.metadata) {
-            return RemoveResult::Frozen;
+            return Err(Refusal::Frozen);
         }
-        if let Some(pos) = self.search_slot(slots, key) {
-            if condition.asks(&slots[pos].val) {
-                return self.remove_unchecked(pos);
-            }
+        let pos = self.search_slot(slots, key).ok_or(Refusal::NotStruck)?;
+        if condition.asks(&slots[pos].val) {
+            Ok(self.remove_unchecked(pos))
+        } else {
+            Err(Refusal::NotStruck)
         }
-        RemoveResult::Fail
     }
 
     // A cursor over the live slots, before the first.

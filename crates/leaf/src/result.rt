@@ -1,49 +1,11 @@
-// What filing and striking answer, ported from `tree_index/leaf.rs` of scc 3.8.8 (Apache-2.0), and changed: the key and the value are
-// copied, so a refused filing does not hand them back.
-ghost use Rattle.std.specs.Prelude.{◌≡◌};
-ghost use Rattle.leaf.specs.Calls.{insert_number, remove_number};
+// What a strike that is done answers.
+//
+// Ported from `RemoveResult` in `tree_index/leaf.rs` of scc 3.8.8 (Apache-2.0), and changed: what is refused is the error of a `Result`,
+// as it is in place of `InsertResult`; the key and the value are copied, so a refused filing does not hand them back.
 
-use keys::refusal::Refusal;
-
-#[derive(Clone, Copy)]
-pub enum InsertResult {
-    Success,
-    // the place is live
-    Duplicate,
-    // no use is left, or the array is retired or frozen
-    Full,
-}
-
-impl InsertResult {
-    pub fn number(self) -> u8
-        ensures { result ≡ insert_number self }
-    {
-        match self {
-            InsertResult::Success => 0,
-            InsertResult::Duplicate => Refusal::Duplicate.number(),
-            InsertResult::Full => Refusal::Full.number(),
-        }
-    }
-}
-
-#[derive(Clone, Copy)]
-pub enum RemoveResult {
+#[derive(Clone, Copy, Debug, PartialEq, Eq)]
+pub enum RemoveOutcome {
     Success,
     // the last live slot was struck
     Retired,
-    // the place is not live, or the condition says no
-    Fail,
-    Frozen,
-}
-
-impl RemoveResult {
-    pub fn number(self) -> u8
-        ensures { result ≡ remove_number self }
-    {
-        match self {
-            RemoveResult::Success | RemoveResult::Retired => 0,
-            RemoveResult::Fail => Refusal::NotStruck.number(),
-            RemoveResult::Frozen => Refusal::Frozen.number(),
-        }
-    }
 }

@@ -4,6 +4,7 @@ use Rattle.std.proofs.Common.{◌≡◌, ℕ, zero, suc, ◌+◌, ◌<◌, ◌�
 use lib.Count.{ones}
 use Rattle.std.specs.List.{slice_get}
 use Rattle.std.proofs.lemmas.List.{length-map, length-set, get_or-set_same, get_or-set_other}
+use Rattle.std.proofs.lemmas.Option.{slice_get-get_or}
 use Rattle.std.proofs.lemmas.Bool.{cases_eq, cases_lt, cond-true, cond-false}
 use Rattle.keys.specs.Orders.{Order, Ordered, stands}
 use Rattle.ranks.specs.Dimensions.{slot_pos}
@@ -17,14 +18,15 @@ use Rattle.leaf.specs.Slots.{side, sides, Sorted}
 use Rattle.leaf.specs.declared.array.Array.{Array}
 use Rattle.leaf.specs.declared.data_block.Slot.{Slot}
 use Rattle.leaf.proofs.Files.{nth_other, sorted_took, sorted_struck}
-use Rattle.leaf.proofs.Finds.{seen}
+use Rattle.leaf.proofs.Finds.{seen, only_one}
+use Rattle.leaf.proofs.Holders.{Holds, Held, held}
 use Rattle.leaf.proofs.Sides.{side_at}
 use Rattle.leaf.proofs.Wholes.{whole_out}
 use Rattle.leaf_lists.specs.Stands.{entry_of, marked, onto, leaf_from, leaf_in, leaf_of, Becomes}
 use Rattle.leaf_lists.proofs.Uses.{slot_other, marked_dead, marked_live, step}
 use Rattle.leaf_lists.proofs.Counts.{live_in, few_uses}
 use Rattle.leaf_lists.proofs.Floors.{took_filed, effect_filed}
-use Rattle.leaf_lists.proofs.Looks.{Holds, Held, held, meets_one, meets_not, only_one}
+use Rattle.leaf_lists.proofs.Looks.{meets_one, meets_not}
 
 -- ---- the last use
 
@@ -40,9 +42,7 @@ module _ {K V : Type 0} where
       ∙ onto_join (get_or rs (slot_pos b) 0) (slice_get slots (slot_pos b)) (leaf_from rs slots (b + 1) m) _
 
   pub nth_set : (xs : List (Slot K V)) (i : ℕ) (s : Slot K V) → i < length xs → slice_get (set xs i s) i ≡ Some s
-  nth_set [] i s h = absurd (omega arith)
-  nth_set (x ∷ xs) zero s h = refl
-  nth_set (x ∷ xs) (suc i) s h = nth_set xs i s (omega arith)
+  nth_set xs i s h = slice_get-get_or (set xs i s) i s (omega (arith, length-set xs i s)) ∙ ap Some (get_or-set_same xs i s s h)
 
   -- a live slot at the last use
   pub from_push : (rs : List ℕ) (slots : List (Slot K V)) (new : Slot K V) (u : ℕ) → length slots ≡ 15 → u < 15 → 0 < get_or rs (slot_pos u) 0 → leaf_from rs (set slots (slot_pos u) new) 0 (u + 1) ≡ leaf_from rs (set slots (slot_pos u) new) 0 u ++ live (entry_of new) ∷ []
@@ -141,7 +141,7 @@ module _ {K V : Type 0} (O : Order K) (L : Ordered O) (a : Array) (slots : List 
       let ord = seen O L a slots n so new.key in
       let only = only_one O L a slots n so new.key in
       let other : (i : ℕ) → i < 0 + u → slot_pos i ≢ f = λ i l. slot_other u i room (omega arith) in
-      let sorted = sorted_took O L rs rs' slots n so new u f (took_filed rs ss nr ns ord (live_in a) f hf o h u (whole_out a.whole).bound) (effect_filed rs ss nr ns ord (live_in a) f hf o h) in
+      let sorted = sorted_took O L rs rs' slots n so new u f (took_filed rs ss nr ns ord f hf o h u (whole_out a.whole).bound) (effect_filed rs ss nr ns ord f hf o h) in
       record {
         leaf =
             ap₂ leaf_in st wr

@@ -1,7 +1,6 @@
 -- How many slots of a leaf there are, and how many are live.
 use Rattle.std.proofs.Common.{◌≡◌, ℕ, zero, suc, ◌+◌, ◌<◌, ◌≤◌, true, false, not, ◌&&◌, eqb, ◌⊎◌, List, [], ◌∷◌, length, get_or, sym, refl, ap, ◌∙◌, ap₂, inl, inr, ⊎_elim, arith}
 use lib.Count.{ones}
-use Rattle.std.proofs.lemmas.List.{get_or_past}
 use Rattle.std.proofs.lemmas.Bool.{cases_eq, cases_lt}
 use Rattle.std.proofs.lemmas.Bool.Decides.{nat_tests}
 use Rattle.ranks.specs.Boundaries.{by_use, live_count}
@@ -12,6 +11,7 @@ use Rattle.ranks.proofs.Words.{length_digits}
 use Rattle.lists.specs.Leaves.{lives, empty, spent, retired}
 use Rattle.leaf.specs.declared.array.Array.{Array}
 use Rattle.leaf.specs.declared.data_block.Slot.{Slot}
+use Rattle.leaf.proofs.Sides.{live_within}
 use Rattle.leaf.proofs.Wholes.{whole_out}
 use Rattle.leaf_lists.specs.Stands.{leaf_from, leaf_of}
 use Rattle.leaf_lists.proofs.Uses.{step}
@@ -70,7 +70,7 @@ empty_cases (r ∷ rs) = ⊎_elim
 
 -- a live slot is one of the fifteen, and used
 pub live_in : (a : Array) (p : ℕ) → 0 < get_or (ranks_of a.metadata) p 0 → p < 15
-live_in a p l = ⊎_elim (λ h. h) (λ h. absurd (omega (arith, get_or_past (ranks_of a.metadata) p 0 (omega (arith, length_digits 15 a.metadata))))) (cases_lt p 15)
+live_in a = live_within (ranks_of a.metadata) (length_digits 15 a.metadata)
 
 pub few_uses : (a : Array) → 0 + ones a.bitmap ≤ 15
 few_uses a = omega (arith, (whole_out a.whole).few)

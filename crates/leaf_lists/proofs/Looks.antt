@@ -1,51 +1,25 @@
 -- What stands at a place in the leaf of an array is what its live slot there holds.
---     Holds rs ss p     slot p is live, and at the place
-use Rattle.std.proofs.Common.{◌≡◌, ℕ, zero, suc, ◌+◌, ◌<◌, ◌≤◌, Bool, true, false, cond, ◌&&◌, eqb, ltb, ◌≢◌, List, [], ◌∷◌, length, get_or, Some, None, Option, sym, refl, ap, ◌∙◌, subst, inl, inr, ⊎_elim, arith}
+use Rattle.std.proofs.Common.{◌≡◌, ℕ, zero, suc, ◌+◌, ◌<◌, ◌≤◌, true, false, ◌≢◌, List, length, get_or, Some, None, Option, sym, refl, ap, ◌∙◌, subst, inl, inr, ⊎_elim, arith}
 use mathlib.Core.Option.{some, none}
 use lib.Count.{ones}
 use Rattle.std.specs.List.{slice_get}
 use Rattle.std.proofs.lemmas.Bool.{cases_eq, cond-true, cond-false}
-use Rattle.std.proofs.lemmas.Bool.Decides.{nat_tests}
 use Rattle.keys.specs.Orders.{Order, Ordered, Way, before, same, after, is_same, stands}
 use Rattle.ranks.specs.Dimensions.{slot_pos}
 use Rattle.ranks.specs.Words.{ranks_of}
 use Rattle.ranks.proofs.Uses.{use_of, use_lt, slot_lt, slot_use, slot_once}
 use Rattle.lists.specs.Leaves.{lives, lookup}
-use Rattle.leaf.specs.Rules.{holder, further}
+use Rattle.leaf.specs.Rules.{holder}
 use Rattle.leaf.specs.Slots.{side_of, sides, Sorted}
 use Rattle.leaf.specs.Calls.{entry_at}
 use Rattle.leaf.specs.declared.array.Array.{Array}
 use Rattle.leaf.specs.declared.data_block.Slot.{Slot}
 use Rattle.leaf.proofs.Sides.{nth_in, side_at}
-use Rattle.leaf.proofs.Finds.{found_same}
+use Rattle.leaf.proofs.Finds.{only_one}
+use Rattle.leaf.proofs.Holders.{Holds, Held, held}
 use Rattle.leaf_lists.specs.Stands.{entry_of, leaf_from, leaf_of, found_in}
 use Rattle.leaf_lists.proofs.Uses.{step}
 use Rattle.leaf_lists.proofs.Counts.{live_in, live_used, few_uses}
-
-abbrev pub Holds : List ℕ → List ℕ → ℕ → Type 0
-Holds rs ss p = (0 < get_or rs p 0) × (get_or ss p 0 ≡ 1)
-
--- what is known of the answer of `holder`
-abbrev pub Held : List ℕ → List ℕ → Option ℕ → Type 0
-Held rs ss None = (p : ℕ) → Holds rs ss p → ⊥
-Held rs ss (Some p) = Holds rs ss p
-
-none_further : (r s : ℕ) (rs ss : List ℕ) → (0 < r → s ≡ 1 → ⊥) → Held rs ss None → Held (r ∷ rs) (s ∷ ss) None
-none_further r s rs ss n h zero k = n k.0 k.1
-none_further r s rs ss n h (suc p) k = h p k
-
-held_further : (r s : ℕ) (rs ss : List ℕ) (o : Option ℕ) → (0 < r → s ≡ 1 → ⊥) → Held rs ss o → Held (r ∷ rs) (s ∷ ss) (further o)
-held_further r s rs ss None n h = none_further r s rs ss n h
-held_further r s rs ss (Some p) n h = h
-
-pub held : (rs ss : List ℕ) → Held rs ss (holder rs ss)
-held [] ss = λ p h. omega (arith, h.0)
-held (r ∷ rs) [] = λ p h. omega (arith, h.1)
-held (r ∷ rs) (s ∷ ss) = go (ltb 0 r && eqb s 1) refl (held rs ss)
-  where
-    go : (t : Bool) → (ltb 0 r && eqb s 1) ≡ t → Held rs ss (holder rs ss) → Held (r ∷ rs) (s ∷ ss) (cond t (Some 0) (further (holder rs ss)))
-    go true e h = (grind (arith, nat_tests), grind (arith, nat_tests))
-    go false e h = held_further r s rs ss (holder rs ss) (λ l k. grind (arith, nat_tests)) h
 
 pub meets_one : (w : Way) → side_of w ≡ 1 → is_same w ≡ true
 meets_one before h = absurd (omega arith)
@@ -103,13 +77,6 @@ module _ {K V : Type 0} (O : Order K) (L : Ordered O) (a : Array) (slots : List 
   abbrev ranks : List ℕ
   ranks = ranks_of a.metadata
 
-  -- one live slot at most is at a place
-  pub only_one : (p q : ℕ) → Holds ranks (sides O x slots) p → Holds ranks (sides O x slots) q → p ≡ q
-  only_one p q h k =
-      let e = found_same O L a slots n so x p h.0 h.1 in
-      let f = found_same O L a slots n so x q k.0 k.1 in
-      cc
-
   looked : (o : Option ℕ) → Held ranks (sides O x slots) o → found_in (entry_at o slots) ≡ lookup O (O.place x) (lives (leaf_of a slots))
   looked None h = sym (look_none O ranks slots n x 0 (ones a.bitmap) (few_uses a) (λ i _ _. h (slot_pos i)))
   looked (Some p) h =
@@ -118,7 +85,7 @@ module _ {K V : Type 0} (O : Order K) (L : Ordered O) (a : Array) (slots : List 
       let u = slot_use p hp in
       ap found_in s.1
       ∙ sym (look_one O ranks slots n x 0 (ones a.bitmap) (use_of p) s.0 (few_uses a) (omega arith) (omega (arith, live_used a p h.0)) (ap (slice_get slots) u ∙ s.1) (subst (Holds ranks (sides O x slots)) (sym u) h)
-      (λ j lj k. slot_once j (use_of p) lj (use_lt p hp) (only_one (slot_pos j) p k h ∙ sym u)))
+      (λ j lj k. slot_once j (use_of p) lj (use_lt p hp) (only_one O L a slots n so x (slot_pos j) p k h ∙ sym u)))
 
   pub look_of : found_in (entry_at (holder ranks (sides O x slots)) slots) ≡ lookup O (O.place x) (lives (leaf_of a slots))
   look_of = looked (holder ranks (sides O x slots)) (held ranks (sides O x slots))

@@ -19,11 +19,13 @@ use Rattle.leaf.specs.Slots.{side_of, sides, Sorted}
 use Rattle.leaf.specs.Calls.{entry_at}
 use Rattle.leaf.specs.declared.array.Array.{Array}
 use Rattle.leaf.specs.declared.data_block.Slot.{Slot}
+use Rattle.leaf.proofs.Finds.{only_one}
+use Rattle.leaf.proofs.Holders.{Holds, Held, held}
 use Rattle.leaf.proofs.Sides.{nth_in, side_at}
 use Rattle.leaf_lists.specs.Stands.{entry_of, leaf_from, leaf_of, found_in, added, entries_at}
 use Rattle.leaf_lists.proofs.Uses.{slot_other, step}
 use Rattle.leaf_lists.proofs.Counts.{live_in, few_uses}
-use Rattle.leaf_lists.proofs.Looks.{Holds, Held, held, meets_one, meets_not, look_none, only_one, look_of}
+use Rattle.leaf_lists.proofs.Looks.{meets_one, meets_not, look_none, look_of}
 
 module _ {K V : Type 0} where
   member_added : {e : Entry K V} (o : Option (Slot K V)) (es : List (Entry K V)) → Memᴰ e es → Memᴰ e (added o es)

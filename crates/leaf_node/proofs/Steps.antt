@@ -1,33 +1,34 @@
 -- Calls of a node as steps of the leaf lists.
-use Rattle.std.proofs.Common.{◌≡◌, ℕ, ◌<◌, ◌≤◌, Bool, true, false, ◌≢◌, List, map, length, get_or, set, sym, refl, ap, ◌∙◌, subst, ap₂, ⊎_elim, arith}
-use mathlib.Core.Option as lists
+use Rattle.std.proofs.Common.{Result, Ok, Err, inl, inr, ◌≡◌, ℕ, ◌≤◌, Bool, true, false, List, map, length, get_or, sym, refl, ap, ◌∙◌, subst, ap₂, ⊎_elim, arith}
 use mathlib.Core.Option.{some, none}
 use Rattle.std.proofs.lemmas.Bool.{both_ways, cases_eq, cond-true}
 use Rattle.keys.specs.Orders.{Order, Ordered}
-use Rattle.keys.specs.declared.refusal.Refusal.TheVariants as refusal
+use Rattle.keys.specs.declared.refusal.Refusal.{Refusal}
+use Rattle.keys.specs.declared.refusal.Refusal.TheVariants.{Duplicate}
 use Rattle.ranks.specs.Words.{ranks_of, is_retired}
 use Rattle.ranks.proofs.Words.{length_digits, digits_lt}
-use Rattle.lists.specs.Leaves.{Entry, Leaf, lives, lookup, append}
+use Rattle.lists.specs.Leaves.{Entry, Leaf, placed, lives, lookup, append}
 use Rattle.lists.specs.Rows.{Row, one, target, changed}
 use Rattle.lists.specs.Nodes.{Done, sheet, filed, refusing, filing, unless_held, replace}
-use Rattle.leaf.specs.Calls.{Inserted}
 use Rattle.leaf.specs.Rules.{state_of}
 use Rattle.leaf.specs.Slots.{side_of, sides, Sorted}
 use Rattle.leaf.specs.declared.array.Array.{Array}
 use Rattle.leaf.specs.declared.data_block.Slot.{Slot}
-use Rattle.leaf.specs.declared.result.InsertResult.{InsertResult}
-use Rattle.leaf.specs.declared.result.InsertResult.TheVariants as insert
 use Rattle.leaf.proofs.Wholes.{whole_out}
-use Rattle.leaf_lists.specs.Stands.{entry_of, leaf_in, leaf_of}
-use Rattle.leaf_node.specs.Records.{state_no, Marked, Sound}
-use Rattle.leaf_node.specs.States.{part, pick, row_on, leaf_no, leaf_at, row_of, node_of, Kept, Aimed}
-use Rattle.leaf_node.specs.Steps.{roomy, call, Crowded, Appended}
-use Rattle.leaf_node.specs.declared.table.Table.{Table}
-use Rattle.leaf_node.proofs.Parts.{length_part}
-use Rattle.leaf_node.proofs.Sounds.{sound_out, state_same, state_other}
-use Rattle.leaf_node.proofs.Rows.{changed_is}
-use Rattle.leaf_node.proofs.Leaves.{Filing, filing_of}
-use Rattle.leaf_node.proofs.States.{node_stands}
+use Rattle.leaf_lists.specs.Stands.{leaf_in}
+use Rattle.ranked_leaves.specs.Ranked.{plain}
+use Rattle.ranked_leaves.proofs.Ranked.{plain_in, plain_taken}
+use Rattle.leaf_table.specs.Records.{state_no}
+use Rattle.leaf_table.specs.States.{part, pick, row_on, state_at, slots_at, leaf_at, ranked_at, row_of, node_of, Arranged, Aimed}
+use Rattle.leaf_table.specs.Changes.{roomy, OnlyLeaf, Elsewhere, FiledAt}
+use Rattle.leaf_table.specs.Filings.{call}
+use Rattle.leaf_table.specs.declared.table.Table.{Table}
+use Rattle.leaf_table.proofs.Parts.{length_part}
+use Rattle.leaf_table.proofs.Sounds.{sound_out}
+use Rattle.leaf_table.proofs.Rows.{changed_is}
+use Rattle.leaf_table.proofs.States.{node_stands}
+use Rattle.leaf_node.specs.States.{Kept}
+use Rattle.leaf_node.specs.Steps.{Appended}
 
 -- ---- the leaf lists alone: what a call comes to
 
@@ -48,69 +49,45 @@ module _ {K V : Type 0} (O : Order K) (e : Entry K V) (r : Row K (Leaf K V)) (us
   call_append true h n = replaced h
   call_append false h n = ap (λ o. unless_held O o (sheet r used closed) (replace O e (sheet r used closed))) (n refl) ∙ replaced h
 
-  call_duplicate : (upsert : Bool) (x : Entry K V) → upsert ≡ false → lookup O p (lives l) ≡ some x → call O e upsert (sheet r used closed) ≡ refusing (sheet r used closed) refusal.Duplicate
+  call_duplicate : (upsert : Bool) (x : Entry K V) → upsert ≡ false → lookup O p (lives l) ≡ some x → call O e upsert (sheet r used closed) ≡ refusing (sheet r used closed) Duplicate
   call_duplicate true x n h = absurd (both_ways true n refl)
   call_duplicate false x n h = ap (λ o. unless_held O o (sheet r used closed) (replace O e (sheet r used closed))) h
 
--- ---- a record with one leaf changed
+-- ---- a record with the leaf of one place changed
 
-pub own_aimed : {K V : Type 0} (O : Order K) (x y : K) (bs : List (Slot K V)) (rs : List ℕ) (t : ℕ) → O.place x ≡ O.place y → Aimed rs (sides O x bs) t → Aimed rs (sides O y bs) t
-own_aimed O x y bs rs t e a = subst (λ ss. Aimed rs ss t) (ap (λ p. map (λ z. side_of (O.way p (O.place z.key))) bs) e) a
+module _ {K V : Type 0} (O : Order K) (rec : Table) (slots : List (Slot K V)) (kept : Kept O rec slots) where
+  pub arranged : Arranged O rec slots
+  arranged = record { leaves = λ t h. kept.leaves (get_or rec.seats t 0) ((sound_out rec.sound).seat t (omega arith)); bounds = kept.bounds }
 
--- leaf n is the array a with the slots of its part, and nothing else is changed
-pub record Leaved {K V : Type 0} (rec rec' : Table) (slots slots' : List (Slot K V)) (n : ℕ) (a : Array) : Type 0 where
-  pub children : rec'.children ≡ rec.children
-  pub seats : rec'.seats ≡ rec.seats
-  pub leaves : rec'.leaves ≡ set rec.leaves n a
-  pub gone : rec'.gone ≡ rec.gone
-  pub others : (m : ℕ) → m < 18 → m ≢ n → part m slots' ≡ part m slots
-
-module _ {K V : Type 0} (rec rec' : Table) (slots slots' : List (Slot K V)) (snd : Sound rec.children rec.seats rec.leaves) (n : ℕ) (hn : n < 17) (a : Array) (c : Leaved rec rec' slots slots' n a) where
-  leaf_same : state_no rec'.leaves n ≡ state_of a
-  leaf_same = ap (λ ls. state_no ls n) c.leaves ∙ state_same rec.leaves n a (omega (arith, snd.table))
-
-  leaf_other : (m : ℕ) → m ≢ n → state_no rec'.leaves m ≡ state_no rec.leaves m
-  leaf_other m ne = ap (λ ls. state_no ls m) c.leaves ∙ state_other rec.leaves n m a ne
-
-  no_bound : 17 ≢ n
-  no_bound z = absurd (omega arith)
-
-  pub kept_one : (O : Order K) → Kept O rec slots → Sorted O (state_of a).ranks (part n slots') → Kept O rec' slots'
-  kept_one O k s = record {
+  pub kept_only : (t : ℕ) → t ≤ 15 → (rec' : Table) (slots' : List (Slot K V)) → OnlyLeaf rec slots (get_or rec.seats t 0) rec' slots' → Sorted O (state_at rec' t).ranks (slots_at rec' slots' t) → Kept O rec' slots'
+  kept_only t ht rec' slots' o so = record {
     leaves = λ m hm. ⊎_elim
-        (λ e. subst (λ i. Sorted O (state_no rec'.leaves i).ranks (part i slots')) (sym e) (subst (λ st. Sorted O st.ranks (part n slots')) (sym leaf_same) s))
-        (λ ne. subst (λ st. Sorted O st.ranks (part m slots')) (sym (leaf_other m ne)) (subst (Sorted O (state_no rec.leaves m).ranks) (sym (c.others m (omega arith) ne)) (k.leaves m hm)))
-        (cases_eq m n);
-    bounds = subst (λ (b : Array). Sorted O (state_of b).ranks (part 17 slots')) (sym c.children) (subst (Sorted O (state_of rec.children).ranks) (sym (c.others 17 (omega arith) no_bound)) k.bounds);
+        (λ e. subst (λ i. Sorted O (state_no rec'.leaves i).ranks (part i slots')) (ap (λ ss. get_or ss t 0) o.seats ∙ sym e) so)
+        (λ ne. subst (λ st. Sorted O st.ranks (part m slots')) (sym (o.states m ne)) (subst (Sorted O (state_no rec.leaves m).ranks) (sym (o.parts m (omega arith) ne)) (kept.leaves m hm)))
+        (cases_eq m (get_or rec.seats t 0));
+    bounds = subst (λ (b : Array). Sorted O (state_of b).ranks (part 17 slots')) (sym o.children) (subst (Sorted O (state_of rec.children).ranks) (sym (o.parts 17 (omega arith) (λ z. absurd (omega (arith, (sound_out rec.sound).seat t (omega arith)))))) kept.bounds);
   }
 
-  module _ (t : ℕ) (ht : t ≤ 15) (at : n ≡ get_or rec.seats t 0) where
-    pub at_here : leaf_at rec' slots' t ≡ leaf_of a (part n slots')
-    at_here = ap (λ ss. leaf_no rec' slots' (get_or ss t 0)) c.seats ∙ ap (leaf_no rec' slots') (sym at) ∙ ap (λ s. leaf_in s (part n slots')) leaf_same
+-- the leaf of a place without its ranks
+pub leaf_plain : {K V : Type 0} (rec : Table) (slots : List (Slot K V)) (t : ℕ) → leaf_at rec slots t ≡ plain (ranked_at rec slots t)
+leaf_plain rec slots t = sym (plain_in (state_at rec t) (slots_at rec slots t))
 
-    pub at_other : (s : ℕ) → s ≤ 15 → s ≢ t → leaf_at rec' slots' s ≡ leaf_at rec slots s
-    at_other s hs ne =
-        let m = get_or rec.seats s 0 in
-        let hm = snd.seat s (omega arith) in
-        let nm : m ≢ n = λ z. ne (snd.once s t (omega arith) (omega arith) (z ∙ at)) in
-        ap (λ ss. leaf_no rec' slots' (get_or ss s 0)) c.seats ∙ ap₂ leaf_in (leaf_other m nm) (c.others m (omega arith) nm)
-
-    -- the target is changed
-    pub row_one : (O : Order K) (L : Ordered O) (x : K) (k : ℕ) → length slots ≡ 270 → Aimed (state_of rec.children).ranks (sides O x (part 17 slots)) t → row_of rec' slots' ≡ changed O (O.place x) (one (leaf_of a (part n slots')) k) (row_of rec slots)
-    unfolding row_of
-    row_one O L x k size aim =
-        ap₂ (λ (b : Array) bs. row_on (pick (state_of b).ranks bs (leaf_at rec' slots')) (leaf_at rec' slots' 15) 1 15) c.children (c.others 17 (omega arith) no_bound)
-        ∙ changed_is O L x (ranks_of rec.children.metadata) (part 17 slots) (length_digits 15 rec.children.metadata) (length_part 17 slots size (omega arith)) (whole_out rec.children.whole).apart (leaf_at rec slots) (leaf_at rec' slots') t aim at_other k (digits_lt 15 rec.children.metadata) ht
-        ∙ ap (λ m. changed O (O.place x) (one m k) (row_on (pick (ranks_of rec.children.metadata) (part 17 slots) (leaf_at rec slots)) (leaf_at rec slots 15) 1 15)) at_here
+module _ {K V : Type 0} (rec rec' : Table) (slots slots' : List (Slot K V)) (t : ℕ) (ht : t ≤ 15) (e : Elsewhere rec slots t rec' slots') where
+  -- the target is changed
+  pub row_one : (O : Order K) (L : Ordered O) (x : K) (k : ℕ) → length slots ≡ 270 → Aimed (state_of rec.children).ranks (sides O x (part 17 slots)) t → row_of rec' slots' ≡ changed O (O.place x) (one (leaf_at rec' slots' t) k) (row_of rec slots)
+  unfolding row_of
+  row_one O L x k size aim =
+      ap₂ (λ (b : Array) bs. row_on (pick (state_of b).ranks bs (leaf_at rec' slots')) (leaf_at rec' slots' 15) 1 15) e.children e.bounds
+      ∙ changed_is O L x (ranks_of rec.children.metadata) (part 17 slots) (length_digits 15 rec.children.metadata) (length_part 17 slots size (omega arith)) (whole_out rec.children.whole).apart (leaf_at rec slots) (leaf_at rec' slots') t aim (λ s hs ne. ap₂ leaf_in (e.states s hs ne) (e.contents s hs ne)) k (digits_lt 15 rec.children.metadata) ht
 
   pub node_one : (row : Row K (Leaf K V)) → rec.gone ≡ false → row_of rec' slots' ≡ row → node_of rec' slots' ≡ sheet row (state_of rec.children).uses (is_retired (state_of rec.children).flags)
-  node_one row g e = node_stands rec' slots' (c.gone ∙ g) ∙ ap₂ (λ r (b : Array). sheet r (state_of b).uses (is_retired (state_of b).flags)) e c.children
+  node_one row g r = node_stands rec' slots' (e.gone ∙ g) ∙ ap₂ (λ r (b : Array). sheet r (state_of b).uses (is_retired (state_of b).flags)) r e.children
 
--- ---- the append step: y spells the place of the new key, and a is the array of the leaf that it goes to
+-- ---- the append step: y spells the place of the new key
 
-module _ {K V : Type 0} (O : Order K) (L : Ordered O) (rec : Table) (slots : List (Slot K V)) (size : length slots ≡ 270) (kept : Kept O rec slots) (stands : rec.gone ≡ false) (new : Slot K V) (upsert : Bool) (y : K) (own : O.place y ≡ O.place new.key) (t n : ℕ) (ht : t ≤ 15) (at : n ≡ get_or rec.seats t 0) (aim : Aimed (state_of rec.children).ranks (sides O y (part 17 slots)) t) (aimed : target O (O.place y) (row_of rec slots) ≡ leaf_at rec slots t) (a : Array) (is : state_of a ≡ state_no rec.leaves n) where
+module _ {K V : Type 0} (O : Order K) (L : Ordered O) (rec : Table) (slots : List (Slot K V)) (size : length slots ≡ 270) (kept : Kept O rec slots) (stands : rec.gone ≡ false) (e : Entry K V) (upsert : Bool) (y : K) (own : O.place y ≡ placed O e) (t : ℕ) (ht : t ≤ 15) (aim : Aimed (state_of rec.children).ranks (sides O y (part 17 slots)) t) (aimed : target O (O.place y) (row_of rec slots) ≡ leaf_at rec slots t) where
   abbrev q : O.Place
-  q = O.place new.key
+  q = placed O e
 
   abbrev used : ℕ
   used = (state_of rec.children).uses
@@ -118,47 +95,25 @@ module _ {K V : Type 0} (O : Order K) (L : Ordered O) (rec : Table) (slots : Lis
   abbrev closed : Bool
   closed = is_retired (state_of rec.children).flags
 
-  snd : Sound rec.children rec.seats rec.leaves
-  snd = sound_out rec.sound
+  own_aim : Aimed (state_of rec.children).ranks (sides O e.key (part 17 slots)) t
+  own_aim = subst (λ ss. Aimed (state_of rec.children).ranks ss t) (ap (λ p. map (λ (z : Slot K V). side_of (O.way p (O.place z.key))) (part 17 slots)) own) aim
 
-  hn : n < 17
-  hn = subst (λ i. i < 17) (sym at) (snd.seat t (omega arith))
+  meant : target O q (row_of rec slots) ≡ leaf_at rec slots t
+  meant = ap (λ p. target O p (row_of rec slots)) (sym own) ∙ aimed
 
-  so : Sorted O (state_of a).ranks (part n slots)
-  so = subst (λ s. Sorted O s.ranks (part n slots)) (sym is) (kept.leaves n hn)
-
-  -- the target is the array a
-  meant : target O q (row_of rec slots) ≡ leaf_of a (part n slots)
-  meant = ap (λ p. target O p (row_of rec slots)) (sym own) ∙ aimed ∙ ap (leaf_no rec slots) (sym at) ∙ ap (λ s. leaf_in s (part n slots)) (sym is)
-
-  seen : {o : lists.Option (Entry K V)} → lookup O q (lives (leaf_of a (part n slots))) ≡ o → lookup O q (lives (target O q (row_of rec slots))) ≡ o
-  seen e = ap (λ l. lookup O q (lives l)) meant ∙ e
-
-  module _ (slots' : List (Slot K V)) (a' : Array) where
-    abbrev Does : InsertResult → Type 0
-    Does r = Sorted O (state_of a).ranks (part n slots) → Inserted O a (part n slots) new upsert a' (part n slots') r
-
-    does : (r : InsertResult) → Does r → Filing O a (part n slots) new upsert a' (part n slots') r
-    does r f = filing_of O L a (part n slots) (length_part n slots size (omega (arith, hn))) so (subst Marked (sym is) (snd.leaf n hn)) new upsert a' (part n slots') r (f so)
-
-    pub appended : (rec' : Table) → Leaved rec rec' slots slots' n a' → Does insert.Success → Appended O rec slots (entry_of new) upsert rec' slots' insert.Success
-    appended rec' c d =
-        let f = does insert.Success d in
-        let row = row_one rec rec' slots slots' snd n hn a' c t ht at O L new.key 0 size (own_aimed O y new.key (part 17 slots) _ t own aim) in
-        let node = node_one rec rec' slots slots' snd n hn a' c (changed O q (one (leaf_of a' (part n slots')) 0) (row_of rec slots)) stands row in (
-          ap (call O (entry_of new) upsert) (node_stands rec slots stands)
-              ∙ call_append O (entry_of new) (row_of rec slots) used closed upsert (ap roomy meant ∙ f.room) (λ z. seen (f.absent z))
-              ∙ ap (λ l. record { node = sheet (changed O q (one l 0) (row_of rec slots)) used closed; answer = filed 0 }) (ap (append O (entry_of new)) meant ∙ sym f.after.leaf)
-              ∙ ap (λ m. record { node = m; answer = filed 0 }) (sym node),
-          kept_one rec rec' slots slots' snd n hn a' c O kept f.after.sorted,
-        )
-
-    pub duplicate : Does insert.Duplicate → call O (entry_of new) upsert (node_of rec slots) ≡ refusing (node_of rec slots) refusal.Duplicate
-    duplicate d =
-        let f = does insert.Duplicate d in
-        ap (call O (entry_of new) upsert) (node_stands rec slots stands)
-        ∙ call_duplicate O (entry_of new) (row_of rec slots) used closed upsert f.1.0 f.0 (seen f.1.1)
-        ∙ ap (λ m. refusing m refusal.Duplicate) (sym (node_stands rec slots stands))
-
-    pub crowded : Does insert.Full → (rec.gone ≡ true → call O (entry_of new) upsert (node_of rec slots) ≡ refusing (node_of rec slots) refusal.Full) × (rec.gone ≡ false → Crowded O rec slots (entry_of new) upsert)
-    crowded d = let f = does insert.Full d in (λ z. absurd (both_ways _ stands z), λ _. record { full = ap roomy meant ∙ f.full; absent = λ z. seen (f.absent z) })
+  pub appended : (rec' : Table) (slots' : List (Slot K V)) → OnlyLeaf rec slots (get_or rec.seats t 0) rec' slots' → (r : Result (Unit {0}) Refusal) → FiledAt O rec slots t e upsert rec' slots' r → Appended O rec slots e upsert rec' slots' r
+  appended rec' slots' o (Ok u) f =
+      let leaf = leaf_plain rec' slots' t ∙ ap plain f.here ∙ plain_taken O e (ranked_at rec slots t) ∙ ap (append O e) (sym (leaf_plain rec slots t) ∙ sym meant) in
+      let row = row_one rec rec' slots slots' t ht f.elsewhere O L e.key 0 size own_aim ∙ ap (λ l. changed O q (one l 0) (row_of rec slots)) leaf in (
+        ap (call O e upsert) (node_stands rec slots stands)
+            ∙ call_append O e (row_of rec slots) used closed upsert (ap roomy meant ∙ f.room) (λ z. ap (λ l. lookup O q (lives l)) meant ∙ f.unheld z)
+            ∙ ap (λ m. record { node = m; answer = filed 0 }) (sym (node_one rec rec' slots slots' t ht f.elsewhere _ stands row)),
+        kept_only O rec slots kept t ht rec' slots' o f.sorted,
+      )
+  appended rec' slots' o (Err r) (inl f) = inl (
+    f.0,
+    ap (call O e upsert) (node_stands rec slots stands)
+        ∙ call_duplicate O e (row_of rec slots) used closed upsert f.2.0 f.1 (ap (λ l. lookup O q (lives l)) meant ∙ f.2.1)
+        ∙ ap (λ m. refusing m Duplicate) (sym (node_stands rec slots stands)),
+  )
+  appended rec' slots' o (Err r) (inr f) = inr (f.0, λ z. absurd (both_ways _ stands z), λ _. record { full = ap roomy meant ∙ f.1; absent = λ z. ap (λ l. lookup O q (lives l)) meant ∙ f.2 z })

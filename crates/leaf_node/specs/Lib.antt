@@ -1,4 +1,3 @@
-pub mod Records
 pub mod States
 pub mod Steps
 pub mod Strikes

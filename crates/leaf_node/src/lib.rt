@@ -1,5 +1,4 @@
-// A node of the store: a record of fifteen child places, an unbounded leaf and a spare, over 270 slots that the caller lends.
+// A node of the store: a table of leaves (`leaf_table`) over 270 slots that the caller lends, and its calls.
 #![tactic(auto)]
 
 pub mod leaf_node;
-pub mod table;

@@ -1,8 +1,8 @@
 -- The parts of the slots.
 use Rattle.std.proofs.Common.{◌≡◌, ℕ, ◌+◌, ◌-◌, ◌*◌, ◌<◌, ◌≢◌, List, ◌++◌, length, take, drop, sym, ap, ◌∙◌, ⊎_elim, arith}
 use borrow.Rule.Slice.PartMut.{put_mid}
-use Rattle.std.proofs.lemmas.List.{length-take-le, length-drop, length-append, take-append-drop}
-use Rattle.std.proofs.lemmas.Slice.{between_is, between-put_mid, take-put_mid_below, drop-put_mid}
+use Rattle.std.proofs.lemmas.List.{length-take-le, length-drop, take-append-drop}
+use Rattle.std.proofs.lemmas.Slice.{between_is, take-put_mid_below, drop-put_mid}
 use Rattle.std.proofs.lemmas.Bool.{cases_lt}
 use Rattle.leaf_table.specs.States.{part}
 
@@ -17,19 +17,11 @@ module _ {A : Type 0} (n : ℕ) (xs ys : List A) (size : length xs ≡ 270) (h :
   abbrev put : List A
   put = put_mid (15 * n) ((15 * n + 15) - 15 * n) xs ys
 
-  pub part_same : part n put ≡ ys
-  part_same = between-put_mid (15 * n) ((15 * n + 15) - 15 * n) xs ys (15 * n + 15) (omega arith) (omega arith)
-
   pub part_other : (m : ℕ) → m < 18 → m ≢ n → part m put ≡ part m xs
   part_other m hm ne = ⊎_elim
       (λ b. between_is put (15 * m) (15 * m + 15) ∙ ap (drop (15 * m)) (take-put_mid_below (15 * n) ((15 * n + 15) - 15 * n) xs ys (15 * m + 15) (omega arith) (omega arith)) ∙ sym (between_is xs (15 * m) (15 * m + 15)))
       (λ b. ap (take ((15 * m + 15) - 15 * m)) (drop-put_mid (15 * n) ((15 * n + 15) - 15 * n) xs ys (15 * m) (omega arith) (omega arith) (omega arith)))
       (cases_lt m n)
-
-  pub length_put : length put ≡ 270
-  length_put =
-      let k : (15 * n + 15) - 15 * n ≡ 15 = omega arith in
-      omega (arith, length-append (take (15 * n) xs) (ys ++ drop ((15 * n + 15) - 15 * n) (drop (15 * n) xs)), length-append ys (drop ((15 * n + 15) - 15 * n) (drop (15 * n) xs)), length-take-le (15 * n) xs (omega arith), length-drop ((15 * n + 15) - 15 * n) (drop (15 * n) xs), length-drop (15 * n) xs)
 
 pub put_back : {A : Type 0} (n : ℕ) (xs ys : List A) → ys ≡ part n xs → put_mid (15 * n) ((15 * n + 15) - 15 * n) xs ys ≡ xs
 put_back n xs ys e =

@@ -2,7 +2,7 @@
 use Rattle.std.proofs.Common.{◌≡◌, ℕ, zero, suc, ◌+◌, ◌<◌, ◌≤◌, Bool, true, false, cond, not, eqb, ◌≢◌, ◌⊎◌, List, [], ◌∷◌, length, get_or, set, Some, None, Option, sym, refl, ap, ◌∙◌, subst, ap₂, inl, inr, ⊎_elim, arith}
 use mathlib.Core.Option.{none}
 use Rattle.std.specs.List.{slice_get}
-use Rattle.std.proofs.lemmas.List.{length-set, length-map, get_or_past, get_or-set_same, get_or-set_other}
+use Rattle.std.proofs.lemmas.List.{length-set, length-map, get_or-set_same, get_or-set_other}
 use Rattle.std.proofs.lemmas.Bool.{both_ways, cases_eq, cases_lt, ne_eqb, eq-eqb, cond-true, cond-false}
 use Rattle.keys.specs.Orders.{Order, Ordered, within}
 use Rattle.ranks.specs.Indexes.{Apart}
@@ -15,15 +15,12 @@ use Rattle.leaf.specs.Rules.{floor, taken_from}
 use Rattle.leaf.specs.Slots.{side, sides, Sorted}
 use Rattle.leaf.specs.declared.data_block.Slot.{Slot}
 use Rattle.leaf.proofs.Files.{nth_same, nth_other}
-use Rattle.leaf.proofs.Sides.{arranged, side_at}
+use Rattle.leaf.proofs.Holders.{greatest}
+use Rattle.leaf.proofs.Sides.{arranged, side_at, live_within}
 use Rattle.leaf_lists.proofs.Counts.{empty_cases}
-use Rattle.leaf_lists.proofs.Floors.{greatest, below}
+use Rattle.leaf_lists.proofs.Floors.{below}
 use Rattle.leaf_table.specs.States.{pick, linked, row_on, Aimed}
 use Rattle.leaf_table.proofs.Rows.{pick_cases, seated, Passed, row_end, row_same, beyond, inside, aim_at, low_passed, all_passed, target_is, changed_is}
-
--- a live place is one of the fifteen
-live_place : (rs : List ℕ) → length rs ≡ 15 → (p : ℕ) → 0 < get_or rs p 0 → p < 15
-live_place rs nr p l = ⊎_elim (λ h. h) (λ h. absurd (omega (arith, get_or_past rs p 0 (omega arith)))) (cases_lt p 15)
 
 -- ---- the child of a rank, where ranks, bounds and places change
 
@@ -232,7 +229,7 @@ module _ {K V A : Type 0} (O : Order K) (L : Ordered O) (x b : K) (rs : List ℕ
   kid_passed : (i : ℕ) → 1 ≤ i → i ≤ F → Passed O q (pick rs bs g i)
   kid_passed i ge le = ⊎_elim
       (λ h.
-      let under = below rs (sides O b bs) nr sided (arranged O bs nb L rs apart so b) (live_place rs nr) t (beside.child h).live in
+      let under = below rs (sides O b bs) nr sided (arranged O bs nb L rs apart so b) t (beside.child h).live in
       ⊎_elim
       (λ l. low_passed O L x rs bs nr nb apart g t aim h i ge (omega arith))
       (λ l. absurd (omega (arith, under l, (beside.child h).reached)))
@@ -243,7 +240,7 @@ module _ {K V A : Type 0} (O : Order K) (L : Ordered O) (x b : K) (rs : List ℕ
   -- what has a greater rank is not before the target
   above : (p : ℕ) → F < get_or rs p 0 → 1 ≤ get_or (sides O x bs) p 0
   above p l =
-      let hp = live_place rs nr p (omega arith) in
+      let hp = live_within rs nr p (omega arith) in
       let far : 0 < get_or (sides O b bs) p 0 = ⊎_elim (λ z. z) (λ z. absurd (omega (arith, (greatest rs (sides O b bs)).most p (omega (arith, sided)) (omega arith)))) (cases_lt 0 (get_or (sides O b bs) p 0)) in
       ⊎_elim
       (λ h.
@@ -302,7 +299,7 @@ module _ {K V A : Type 0} (rs : List ℕ) (bs : List (Slot K V)) (f : ℕ → A)
     | inl z ↦ ap bounded (none_picked z.1) ∙ sym (ap not z.0)
     | inr z ↦
         let p = z.1.0 in
-        let h = live_place rs nr p z.1.1 in
+        let h = live_within rs nr p z.1.1 in
         elim (pick_cases rs bs f (get_or rs p 0)) [
           | inl y ↦ absurd (y.free p (omega arith) (omega arith) refl)
           | inr y ↦ bounded_by (pick rs bs f) last 15 1 (get_or rs p 0) (y.slot.key, f y.at) y.is z.1.1 (u p) ∙ sym (ap not z.0)
@@ -343,7 +340,7 @@ module _ {K V : Type 0} (O : Order K) (L : Ordered O) (rs : List ℕ) (bs : List
   -- a child that the key is within has none of it in what follows
   past : (p : ℕ) → 0 < get_or rs p 0 → 0 < get_or (sides O y bs) p 0 → (m : ℕ) × (16 ≡ suc (get_or rs p 0) + m) × (look O L (O.place y) (row_on (pick rs bs f) (f 15) (suc (get_or rs p 0)) m) ≡ none)
   past p live far =
-      let h = live_place rs nr p live in
+      let h = live_within rs nr p live in
       let s = seated rs bs nr nb apart f p h live in
       let g = good_kid O L (pick rs bs f) (f 15) 15 1 (get_or rs p 0) s.slot.key (f p) s.is live (u p) good in
       (g.0, omega (arith, g.1), g.2.beyond (O.place y) (inside O L y s.slot (omega (arith, side_at O bs nb y p s.slot h s.here))))

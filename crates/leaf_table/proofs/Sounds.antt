@@ -1,14 +1,21 @@
 -- What a record keeps: taken out of its ghost field, and kept by each change.
-use Rattle.std.proofs.Common.{◌≡◌, ℕ, zero, suc, ◌+◌, ◌<◌, cond, eqb, ◌≢◌, List, [], ◌∷◌, length, get_or, set, replicate, sym, refl, ap, ◌∙◌, subst, ⊎_elim, arith}
+use Rattle.std.proofs.Common.{◌≡◌, ℕ, zero, suc, ◌<◌, cond, eqb, ◌≢◌, List, [], ◌∷◌, length, get_or, set, replicate, sym, refl, ap, ◌∙◌, subst, ⊎_elim, arith}
 use mathlib.Core.Logic.{∥∥₁_elim}
 use native.Mathlib.Bridge.{le_prop}
 use base.Stored.{Coded-set, coded_ℕ}
-use Rattle.std.proofs.lemmas.List.{length-map, length-set, get_or-map, get_or-set_same, get_or-set_other}
+use mathlib.Core.HLevel.{is_prop→PathP}
+use Rattle.std.specs.List.{swap}
+use Rattle.std.proofs.lemmas.List.{length-map, length-set, map-set, get_or-map, get_or-set_same, get_or-set_other, set-get_or}
+use Rattle.std.proofs.lemmas.List.FromFn.{get_or-range_with_len}
+use Rattle.std.proofs.lemmas.List.Edits.{length-swap, swapped_from_swap}
 use Rattle.std.proofs.lemmas.Bool.{cases_eq, eq-eqb, ne_eqb, cond-true, cond-false}
 use Rattle.std.proofs.lemmas.Bool.Decides.{nat_tests}
 use Rattle.leaf.specs.Calls.{fresh}
 use Rattle.leaf.specs.Rules.{state_of}
 use Rattle.leaf.specs.declared.array.Array.{Array}
+use Rattle.leaf.specs.Records.{Whole}
+use Rattle.ranked_leaves.proofs.Anew.{words_of}
+use Rattle.leaf_table.specs.declared.table.Table.{Table}
 use Rattle.leaf_table.specs.Records.{leaf_count, states_of, state_no, Marked, Sound}
 
 pub sound_out : {children : Array} {seats : List ℕ} {leaves : List Array} → ∥ Sound children seats leaves ∥₁ → Sound children seats leaves
@@ -23,17 +30,6 @@ sound_out t = record {
 
 -- ---- a fresh record
 
--- n numbers from i on
-up_to : ℕ → ℕ → List ℕ
-up_to i zero = []
-up_to i (suc n) = i ∷ up_to (suc i) n
-
-at_up_to : (i n s : ℕ) → s < n → get_or (up_to i n) s 0 ≡ i + s
-unfolding up_to
-at_up_to i zero s h = absurd (omega arith)
-at_up_to i (suc n) zero h = omega arith
-at_up_to i (suc n) (suc s) h = omega (arith, at_up_to (suc i) n s (omega arith))
-
 pub all_fresh : (a : Array) (m n : ℕ) → state_of a ≡ fresh → state_no (replicate m a) n ≡ fresh
 all_fresh a zero n e = refl
 all_fresh a (suc m) zero e = e
@@ -43,68 +39,49 @@ marked_fresh : Marked fresh
 marked_fresh = refl
 
 pub sound_fresh : (a b : Array) → state_of a ≡ fresh → state_of b ≡ fresh → Sound a (0 ∷ 1 ∷ 2 ∷ 3 ∷ 4 ∷ 5 ∷ 6 ∷ 7 ∷ 8 ∷ 9 ∷ 10 ∷ 11 ∷ 12 ∷ 13 ∷ 14 ∷ 15 ∷ 16 ∷ []) (replicate 17 b)
-unfolding up_to
 sound_fresh a b e f = record {
   table = refl;
   places = refl;
-  seat = λ t h. omega (arith, at_up_to 0 17 t h);
-  once = λ s t hs ht z. omega (arith, at_up_to 0 17 s hs, at_up_to 0 17 t ht);
+  seat = λ t h. omega (arith, get_or-range_with_len 0 17 t 0 h);
+  once = λ s t hs ht z. omega (arith, get_or-range_with_len 0 17 s 0 hs, get_or-range_with_len 0 17 t 0 ht);
   bounds = subst Marked (sym e) marked_fresh;
   leaf = λ n h. subst Marked (sym (all_fresh b 17 n f)) marked_fresh;
 }
 
 -- ---- one leaf changed
 
-map_set : (xs : List Array) (n : ℕ) (a : Array) → states_of (set xs n a) ≡ set (states_of xs) n (state_of a)
-map_set [] n a = refl
-map_set (x ∷ xs) zero a = refl
-map_set (x ∷ xs) (suc n) a = ap (λ ys. state_of x ∷ ys) (map_set xs n a)
-
 pub state_same : (leaves : List Array) (n : ℕ) (a : Array) → n < length leaves → state_no (set leaves n a) n ≡ state_of a
-state_same leaves n a h = ap (λ ss. get_or ss n fresh) (map_set leaves n a) ∙ get_or-set_same (states_of leaves) n (state_of a) fresh (omega (arith, length-map leaves state_of))
+state_same leaves n a h = ap (λ ss. get_or ss n fresh) (map-set state_of leaves n a) ∙ get_or-set_same (states_of leaves) n (state_of a) fresh (omega (arith, length-map leaves state_of))
 
 pub state_other : (leaves : List Array) (n m : ℕ) (a : Array) → m ≢ n → state_no (set leaves n a) m ≡ state_no leaves m
-state_other leaves n m a ne = ap (λ ss. get_or ss m fresh) (map_set leaves n a) ∙ get_or-set_other (states_of leaves) n m (state_of a) fresh ne
+state_other leaves n m a ne = ap (λ ss. get_or ss m fresh) (map-set state_of leaves n a) ∙ get_or-set_other (states_of leaves) n m (state_of a) fresh ne
 
 -- another table of leaves
 pub sound_leaves : {children : Array} {seats : List ℕ} {leaves : List Array} (leaves' : List Array) → length leaves' ≡ leaf_count → ((n : ℕ) → n < leaf_count → Marked (state_no leaves' n)) → Sound children seats leaves → Sound children seats leaves'
 sound_leaves leaves' len marked s = record { table = len; places = s.places; seat = s.seat; once = s.once; bounds = s.bounds; leaf = marked }
 
-pub marked_put : {children : Array} {seats : List ℕ} {leaves : List Array} (n : ℕ) (a : Array) → n < leaf_count → Marked (state_of a) → Sound children seats leaves → (m : ℕ) → m < leaf_count → Marked (state_no (set leaves n a) m)
-marked_put {leaves = leaves} n a h w s m hm = ⊎_elim
+pub sound_put : {children : Array} {seats : List ℕ} {leaves : List Array} (n : ℕ) (a : Array) → n < leaf_count → Marked (state_of a) → Sound children seats leaves → Sound children seats (set leaves n a)
+sound_put {leaves = leaves} n a h w s = sound_leaves (set leaves n a) (length-set leaves n a ∙ s.table) (λ m hm. ⊎_elim
     (λ e. subst Marked (sym (ap (state_no (set leaves n a)) e ∙ state_same leaves n a (omega (arith, s.table)))) w)
     (λ ne. subst Marked (sym (state_other leaves n m a ne)) (s.leaf m hm))
-    (cases_eq m n)
+    (cases_eq m n)) s
 
 -- ---- two places change leaves
 
-module _ (seats : List ℕ) (s t : ℕ) (hs : s < length seats) (ht : t < length seats) where
-  abbrev swap : List ℕ
-  swap = set (set seats s (get_or seats t 0)) t (get_or seats s 0)
-
-  swap_second : get_or swap t 0 ≡ get_or seats s 0
-  swap_second = get_or-set_same (set seats s (get_or seats t 0)) t (get_or seats s 0) 0 (omega (arith, length-set seats s (get_or seats t 0)))
-
-  swap_first : get_or swap s 0 ≡ get_or seats t 0
-  swap_first = ⊎_elim
-      (λ (e : s ≡ t). ap (λ i. get_or swap i 0) e ∙ swap_second ∙ ap (λ i. get_or seats i 0) e)
-      (λ (ne : s ≢ t). get_or-set_other (set seats s (get_or seats t 0)) t s (get_or seats s 0) 0 ne ∙ get_or-set_same seats s (get_or seats t 0) 0 hs)
-      (cases_eq s t)
-
-  pub swap_other : (i : ℕ) → i ≢ s → i ≢ t → get_or swap i 0 ≡ get_or seats i 0
-  swap_other i ns nt = get_or-set_other (set seats s (get_or seats t 0)) t i (get_or seats s 0) 0 nt ∙ get_or-set_other seats s i (get_or seats t 0) 0 ns
-
+module _ (seats seats' : List ℕ) (s t : ℕ) (hs : s < length seats) (ht : t < length seats) (is : seats' ≡ swap seats s t) where
   -- the place whose leaf place i has now
   from : ℕ → ℕ
   from i = cond (eqb i s) t (cond (eqb i t) s i)
 
-  swap_from : (i : ℕ) → (get_or swap i 0 ≡ get_or seats (from i) 0) × (i < length seats → from i < length seats)
+  swap_from : (i : ℕ) → (get_or seats' i 0 ≡ get_or seats (from i) 0) × (i < length seats → from i < length seats)
   unfolding from
-  swap_from i = ⊎_elim
-      (λ (e : i ≡ s). let z = cond-true (eqb i s) t (cond (eqb i t) s i) (eq-eqb i s e) in (ap (λ j. get_or swap j 0) e ∙ swap_first ∙ ap (λ j. get_or seats j 0) (sym z), λ _. omega arith))
+  swap_from i =
+      let w = swapped_from_swap seats seats' s t 0 hs ht is in
+      ⊎_elim
+      (λ (e : i ≡ s). let z = cond-true (eqb i s) t (cond (eqb i t) s i) (eq-eqb i s e) in (ap (λ j. get_or seats' j 0) e ∙ w.0 ∙ ap (λ j. get_or seats j 0) (sym z), λ _. omega arith))
       (λ (n : i ≢ s). ⊎_elim
-      (λ (e : i ≡ t). let z = cond-false (eqb i s) t (cond (eqb i t) s i) (ne_eqb i s n) ∙ cond-true (eqb i t) s i (eq-eqb i t e) in (ap (λ j. get_or swap j 0) e ∙ swap_second ∙ ap (λ j. get_or seats j 0) (sym z), λ _. omega arith))
-      (λ (m : i ≢ t). let z = cond-false (eqb i s) t (cond (eqb i t) s i) (ne_eqb i s n) ∙ cond-false (eqb i t) s i (ne_eqb i t m) in (swap_other i n m ∙ ap (λ j. get_or seats j 0) (sym z), λ h. omega arith))
+      (λ (e : i ≡ t). let z = cond-false (eqb i s) t (cond (eqb i t) s i) (ne_eqb i s n) ∙ cond-true (eqb i t) s i (eq-eqb i t e) in (ap (λ j. get_or seats' j 0) e ∙ w.1 ∙ ap (λ j. get_or seats j 0) (sym z), λ _. omega arith))
+      (λ (m : i ≢ t). let z = cond-false (eqb i s) t (cond (eqb i t) s i) (ne_eqb i s n) ∙ cond-false (eqb i t) s i (ne_eqb i t m) in (w.2 i n m ∙ ap (λ j. get_or seats j 0) (sym z), λ h. omega arith))
       (cases_eq i t))
       (cases_eq i s)
 
@@ -112,10 +89,10 @@ module _ (seats : List ℕ) (s t : ℕ) (hs : s < length seats) (ht : t < length
   unfolding from
   from_once i j e = grind (arith, nat_tests)
 
-  pub sound_swap : {children : Array} {leaves : List Array} → Sound children seats leaves → Sound children swap leaves
+  pub sound_swap : {children : Array} {leaves : List Array} → Sound children seats leaves → Sound children seats' leaves
   sound_swap w = record {
     table = w.table;
-    places = length-set (set seats s (get_or seats t 0)) t (get_or seats s 0) ∙ length-set seats s (get_or seats t 0) ∙ w.places;
+    places = ap length is ∙ length-swap seats s t ∙ w.places;
     seat = λ i h. let f = swap_from i in omega (arith, f.0, w.seat (from i) (omega (arith, f.1 (omega (arith, w.places)), w.places)));
     once = λ i j hi hj e.
         let f = swap_from i in
@@ -131,3 +108,22 @@ sound_children children' m w = record { table = w.table; places = w.places; seat
 -- a leaf that was read
 pub state_read : (leaves : List Array) (n : ℕ) (d : Array) → n < length leaves → state_of (get_or leaves n d) ≡ state_no leaves n
 state_read leaves n d h = sym (get_or-map state_of leaves n d fresh h)
+
+-- ---- equal records
+
+same_array : {m m' b b' : ℕ} → m ≡ m' → b ≡ b' → (w : ∥ Whole m b ∥₁) (w' : ∥ Whole m' b' ∥₁) → ◌≡◌ {A = Array} (record { metadata = m; bitmap = b; whole = w }) (record { metadata = m'; bitmap = b'; whole = w' })
+same_array p q w w' = λ i. record { metadata = p i; bitmap = q i; whole = is_prop→PathP (λ j. ∥ Whole (p j) (q j) ∥₁) (λ j. squash₁) w w' i }
+
+-- an array has no more to it than its state
+pub array_of : (a b : Array) → state_of a ≡ state_of b → a ≡ b
+array_of a b e = let w = words_of a b e in same_array w.0 w.1 a.whole b.whole
+
+-- leaf n is a
+abbrev pub put_leaf : (rec : Table) (n : ℕ) (a : Array) → ∥ Sound rec.children rec.seats (set rec.leaves n a) ∥₁ → Table
+put_leaf rec n a s = record { children = rec.children; seats = rec.seats; leaves = set rec.leaves n a; gone = rec.gone; sound = s }
+
+-- and it was a before
+pub leaf_back : (rec : Table) (n : ℕ) (d a : Array) (s : ∥ Sound rec.children rec.seats (set rec.leaves n a) ∥₁) → a ≡ get_or rec.leaves n d → put_leaf rec n a s ≡ rec
+leaf_back rec n d a s e =
+    let p = ap (set rec.leaves n) e ∙ set-get_or rec.leaves n d in
+    λ i. record { children = rec.children; seats = rec.seats; leaves = p i; gone = rec.gone; sound = is_prop→PathP (λ j. ∥ Sound rec.children rec.seats (p j) ∥₁) (λ j. squash₁) s rec.sound i }

@@ -1,10 +1,12 @@
 -- A strike in the array of a leaf.
-use Rattle.std.proofs.Common.{◌≡◌, ℕ, ◌<◌, Bool, true, false, cond, not, ◌&&◌, eqb, ◌⊎◌, List, length, get_or, set, Some, None, Option, sym, refl, ap, ◌∙◌, subst, inl, inr, arith}
+use Rattle.std.proofs.Common.{Result, Ok, Err, ◌≡◌, ℕ, ◌<◌, Bool, true, false, cond, not, ◌&&◌, eqb, ◌⊎◌, List, length, get_or, set, Some, None, Option, sym, refl, ap, ◌∙◌, subst, inl, inr, arith}
 use mathlib.Core.Option as lists
 use mathlib.Core.Option.{some, none}
 use Rattle.std.proofs.lemmas.Bool.{cond-false}
 use Rattle.std.proofs.lemmas.Bool.Decides.{nat_tests}
 use Rattle.keys.specs.Orders.{Order, Ordered}
+use Rattle.keys.specs.declared.refusal.Refusal.{Refusal}
+use Rattle.keys.specs.declared.refusal.Refusal.TheVariants.{NotStruck}
 use Rattle.ranks.specs.Words.{is_empty, is_frozen}
 use Rattle.lists.specs.Leaves.{Entry, lives, spent, lookup}
 use Rattle.leaf.specs.Calls.{entry_at, outcome, Removal, asked, Removed}
@@ -12,14 +14,14 @@ use Rattle.leaf.specs.Rules.{State, state_of, holder, struck}
 use Rattle.leaf.specs.Slots.{sides, Sorted}
 use Rattle.leaf.specs.declared.array.Array.{Array}
 use Rattle.leaf.specs.declared.data_block.Slot.{Slot}
-use Rattle.leaf.specs.declared.result.RemoveResult.{RemoveResult}
-use Rattle.leaf.specs.declared.result.RemoveResult.TheVariants as remove
+use Rattle.leaf.specs.declared.result.RemoveOutcome.{RemoveOutcome}
+use Rattle.leaf.specs.declared.result.RemoveOutcome.TheVariants.{Success, Retired}
 use Rattle.leaf.proofs.Wholes.{whole_out}
 use Rattle.ranked_leaves.specs.Ranked.{cleared}
 use Rattle.leaf_lists.specs.Stands.{entry_of, leaf_of, found_in}
 use Rattle.ranked_leaves.specs.RanksStand.{ranked_of}
 use Rattle.leaf_lists.proofs.Bridge.{bridge}
-use Rattle.leaf_lists.proofs.Looks.{Held, held}
+use Rattle.leaf.proofs.Holders.{Held, held}
 use Rattle.leaf_table.specs.Records.{Marked}
 use Rattle.leaf_table.specs.Changes as table
 use Rattle.ranked_leaves.proofs.Changes.{ranked_strike}
@@ -41,11 +43,7 @@ marked_struck a s' p m l e = subst Marked (sym e) (by (state_of a).uses (is_empt
     by u t f h e = grind (arith, nat_tests)
 
 warm : (s : State) → Marked s → is_frozen s.flags ≡ false
-warm s m = by (not (eqb s.uses 0) && is_empty s.ranks) s.flags m
-  where
-    by : (t : Bool) (f : ℕ) → f ≡ cond t 4 0 → is_frozen f ≡ false
-    by true f e = ap is_frozen e
-    by false f e = ap is_frozen e
+warm s m = grind (arith, nat_tests)
 
 -- ---- a strike in an array
 
@@ -66,40 +64,39 @@ module _ {K V C : Type 0} (O : Order K) (verdict : C → V → Bool) (after : C 
   abbrev pub On : Type 0
   On = (found ≡ none) ⊎ ((e : Entry K V) × (found ≡ some e) × (verdict c e.value ≡ false))
 
-  abbrev pub Striking : RemoveResult → Type 0
-  Striking remove.Success = Off false
-  Striking remove.Retired = Off true
-  Striking remove.Fail = On
-  Striking remove.Frozen = ⊥
+  abbrev pub Striking : Result RemoveOutcome Refusal → Type 0
+  Striking (Ok Success) = Off false
+  Striking (Ok Retired) = Off true
+  Striking (Err r) = (r ≡ NotStruck) × On
 
   module _ (L : Ordered O) (len : length bs ≡ 15) (so : Sorted O (state_of a).ranks bs) (mark : Marked (state_of a)) where
     abbrev here : Option ℕ
     here = holder (state_of a).ranks (sides O x bs)
 
-    off : (p : ℕ) (s : Slot K V) (r : RemoveResult) → here ≡ Some p → found ≡ some (entry_of s) → verdict c s.val ≡ true → 0 < get_or (state_of a).ranks p 0 → state_of a' ≡ struck p (state_of a) → r ≡ outcome (struck p (state_of a)) → Striking r
+    off : (p : ℕ) (s : Slot K V) (r : Result RemoveOutcome Refusal) → here ≡ Some p → found ≡ some (entry_of s) → verdict c s.val ≡ true → 0 < get_or (state_of a).ranks p 0 → state_of a' ≡ struck p (state_of a) → r ≡ Ok (outcome (struck p (state_of a))) → Striking r
     off p s r h f v l st e =
         let b = ((bridge O L).agrees a bs len so).strike x p a' h st in
         let last = ((bridge {V = V} O L).counts a' bs len).none ∙ ap (λ z. is_empty z.ranks) st in
         by r (is_empty (set (state_of a).ranks p 0)) (struck p (state_of a)).flags (struck_flags (state_of a) p mark l) e (record { entry = entry_of s; held = f; said = v; ranks = ranked_strike O L a bs len so x p a' h st; sorted = b.sorted; spent = last })
       where
-        by : (r : RemoveResult) (t : Bool) (f : ℕ) → f ≡ cond t 4 0 → r ≡ cond (eqb f 4) remove.Retired remove.Success → Off t → Striking r
-        by r true f z e o = subst Striking (sym (e ∙ ap (λ k. cond (eqb k 4) remove.Retired remove.Success) z)) o
-        by r false f z e o = subst Striking (sym (e ∙ ap (λ k. cond (eqb k 4) remove.Retired remove.Success) z)) o
+        by : (r : Result RemoveOutcome Refusal) (t : Bool) (f : ℕ) → f ≡ cond t 4 0 → r ≡ Ok (cond (eqb f 4) Retired Success) → Off t → Striking r
+        by r true f z e o = subst Striking (sym (e ∙ ap (λ k. Ok (cond (eqb k 4) Retired Success)) z)) o
+        by r false f z e o = subst Striking (sym (e ∙ ap (λ k. Ok (cond (eqb k 4) Retired Success)) z)) o
 
-    abbrev Told : RemoveResult → Type 0
+    abbrev Told : Result RemoveOutcome Refusal → Type 0
     Told r = Striking r × (c' ≡ table.asked after c found)
 
-    asks : (o : Option ℕ) (e : Option (Slot K V)) (r : RemoveResult) → here ≡ o → e ≡ entry_at o bs → found_in (entry_at o bs) ≡ found → Held (state_of a).ranks (sides O x bs) o → ◌≡◌ {A = Removal C} (record { answer = r; state = state_of a'; condition = c' }) (asked verdict after (state_of a) c o e) → Told r
-    asks None e r h is f k eq = (subst Striking (sym (ap (λ (m : Removal C). m.answer) eq)) (inl (sym f)), ap (λ (m : Removal C). m.condition) eq ∙ ap (table.asked after c) f)
+    asks : (o : Option ℕ) (e : Option (Slot K V)) (r : Result RemoveOutcome Refusal) → here ≡ o → e ≡ entry_at o bs → found_in (entry_at o bs) ≡ found → Held (state_of a).ranks (sides O x bs) o → ◌≡◌ {A = Removal C} (record { answer = r; state = state_of a'; condition = c' }) (asked verdict after (state_of a) c o e) → Told r
+    asks None e r h is f k eq = (subst Striking (sym (ap (λ (m : Removal C). m.answer) eq)) (refl, inl (sym f)), ap (λ (m : Removal C). m.condition) eq ∙ ap (table.asked after c) f)
     asks (Some p) None r h is f k eq =
         let z = ap found_in is ∙ f in
-        (subst Striking (sym (ap (λ (m : Removal C). m.answer) eq)) (inl (sym z)), ap (λ (m : Removal C). m.condition) eq ∙ ap (table.asked after c) z)
+        (subst Striking (sym (ap (λ (m : Removal C). m.answer) eq)) (refl, inl (sym z)), ap (λ (m : Removal C). m.condition) eq ∙ ap (table.asked after c) z)
     asks (Some p) (Some s) r h is f k eq =
         let z = ap found_in is ∙ f in
-        (elim (verdict c s.val) as (λ w. verdict c s.val ≡ w → ◌≡◌ {A = Removal C} (record { answer = r; state = state_of a'; condition = c' }) (cond w (record { answer = outcome (struck p (state_of a)); state = struck p (state_of a); condition = after c s.val }) (record { answer = remove.Fail; state = state_of a; condition = after c s.val })) → Told r) [
+        (elim (verdict c s.val) as (λ w. verdict c s.val ≡ w → ◌≡◌ {A = Removal C} (record { answer = r; state = state_of a'; condition = c' }) (cond w (record { answer = Ok (outcome (struck p (state_of a))); state = struck p (state_of a); condition = after c s.val }) (record { answer = Err NotStruck; state = state_of a; condition = after c s.val })) → Told r) [
           | true ↦ λ v eq. (off p s r h (sym z) v k.0 (ap (λ (m : Removal C). m.state) eq) (ap (λ (m : Removal C). m.answer) eq), ap (λ (m : Removal C). m.condition) eq ∙ ap (table.asked after c) z)
-          | false ↦ λ v eq. (subst Striking (sym (ap (λ (m : Removal C). m.answer) eq)) (inr (entry_of s, sym z, v)), ap (λ (m : Removal C). m.condition) eq ∙ ap (table.asked after c) z)
+          | false ↦ λ v eq. (subst Striking (sym (ap (λ (m : Removal C). m.answer) eq)) (refl, inr (entry_of s, sym z, v)), ap (λ (m : Removal C). m.condition) eq ∙ ap (table.asked after c) z)
         ]) refl eq
 
-    pub striking_of : (r : RemoveResult) → Removed O verdict after a c x bs a' c' r → Told r
+    pub striking_of : (r : Result RemoveOutcome Refusal) → Removed O verdict after a c x bs a' c' r → Told r
     striking_of r e = asks here (entry_at here bs) r refl refl (((bridge O L).agrees a bs len so).look x) (held (state_of a).ranks (sides O x bs)) (e ∙ cond-false _ _ _ (warm (state_of a) mark))

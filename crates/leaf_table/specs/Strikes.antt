@@ -1,15 +1,15 @@
 -- What a strike answers and leaves: the node by the leaf lists, and each array by the rules for ranks.
 --     held_in O p n      the entry that holds the place p in the node n
-use Rattle.std.specs.Prelude.{◌≡◌, ℕ, ◌≤◌, Bool, cond, not, ◌&&◌, ◌≢◌, List, ◌==◌}
+use Rattle.std.specs.Prelude.{Result, OnOk, ◌≡◌, ℕ, ◌≤◌, Bool, cond, not, ◌&&◌, ◌≢◌, List, ◌==◌}
 use Rattle.std.proofs.Math.Option.{Option, none}
 use Rattle.keys.specs.Orders.{Order}
 use Rattle.lists.specs.Leaves.{Entry, spent}
 use Rattle.lists.specs.Nodes.{Node, gone, sheet, held, strike}
-use Rattle.leaf.specs.Calls.{remove_number}
 use Rattle.leaf.specs.Rules.{state_of, struck}
 use Rattle.leaf.specs.Slots.{sides}
 use Rattle.leaf.specs.declared.data_block.Slot.{Slot}
-use Rattle.leaf.specs.declared.result.RemoveResult.{RemoveResult}
+use Rattle.keys.specs.declared.refusal.Refusal.{Refusal}
+use Rattle.leaf.specs.declared.result.RemoveOutcome.{RemoveOutcome}
 use Rattle.ranked_leaves.specs.Ranked.{cleared}
 use Rattle.leaf_table.specs.States.{part, state_at, slots_at, leaf_at, ranked_at, node_of, Kept, Aimed}
 use Rattle.leaf_table.specs.declared.table.Table.{Table}
@@ -19,7 +19,7 @@ abbrev pub held_in : {K V : Type 0} (O : Order K) → O.Place → Node K V → O
 held_in O p gone = none
 held_in O p (sheet r used closed) = held O p r
 
-module _ {K V : Type 0} (O : Order K) (says : V → Bool) (rec : Table) (slots : List (Slot K V)) (x : K) (rec' : Table) (r : RemoveResult) where
+module _ {K V : Type 0} (O : Order K) (says : V → Bool) (rec : Table) (slots : List (Slot K V)) (x : K) (rec' : Table) (r : Result RemoveOutcome Refusal) where
   -- An accepted strike, seen in the arrays: the slot of the place loses its rank, and with the last live slot of a bounded child the child
   -- loses its own.
   pub record Ranks : Type 0 where
@@ -32,5 +32,5 @@ module _ {K V : Type 0} (O : Order K) (says : V → Bool) (rec : Table) (slots :
 
   pub record Struck : Type 0 where
     pub node : strike O (O.place x) says (node_of rec slots) ≡ record { node = node_of rec' slots; answer = strike_answer r }
-    pub ranks : remove_number r ≡ 0 → Ranks
+    pub ranks : OnOk r Ranks
     pub kept : Kept O rec' slots

@@ -2,24 +2,30 @@
 //
 // Ported from `tree_index/leaf_node.rs` of scc 3.8.8 (Apache-2.0), and changed: one owner, a table of leaves in place of pointers, slots
 // that are lent at each call, and a flag in place of `UPSERT`.
-ghost use Rattle.std.specs.Prelude.{◌≡◌, ℕ, ◌<◌, ◌≤◌, false, ◌≢◌, List, length, ◌==◌, slice_index};
+ghost use Rattle.std.specs.Prelude.{◌≡◌, ℕ, ◌<◌, ◌≤◌, false, ◌≢◌, List, length, IfOk, IfErr, OnOk, OnErr, ◌==◌, slice_index};
+ghost use Rattle.ranks.specs.Dimensions.{leaf_length};
 ghost use Rattle.lists.specs.Leaves.{lives, lookup};
 ghost use Rattle.lists.specs.Nodes.{fresh, told, held, find};
 ghost use Rattle.lists.specs.Rows as rows;
-ghost use Rattle.leaf.specs.Calls.{insert_number, remove_number, Filled, Inserted};
+ghost use Rattle.leaf.specs.Calls.{fresh as blank, Filled, Struck, Inserted, FilingRefusal, StrikeRefusal};
 ghost use Rattle.leaf.specs.Rules.{state_of};
 ghost use Rattle.leaf.specs.Slots.{sides, Sorted};
 ghost use Rattle.leaf.specs.declared.data_block.Slot as slot;
-ghost use Rattle.leaf_lists.specs.Stands.{found_in};
-ghost use Rattle.leaf_table.specs.States.{node_length, part, state_at, slots_at, leaf_at, row_of, node_of, Kept, Aimed};
-ghost use Rattle.leaf_table.specs.Changes.{FiledAt, StruckAt, asked};
+ghost use Rattle.leaf_lists.specs.Stands.{entry_of, found_in};
+ghost use Rattle.leaf_table.specs.Records.{state_no};
+ghost use Rattle.leaf_table.specs.States.{node_length, part, state_at, slots_at, leaf_at, row_of, node_of, Arranged, Kept, Aimed};
+ghost use Rattle.leaf_table.specs.Changes.{OnlyLeaf, FiledAt, StruckAt, asked};
 
-use crate::table::Table;
+use crate::table::{LEAVES, Table};
 use keys::condition::Condition;
 use keys::equivalent::{Comparable, Equivalent};
+use keys::refusal::Refusal;
 use leaf::array::Array;
 use leaf::data_block::Slot;
-use leaf::result::{InsertResult, RemoveResult};
+use leaf::result::RemoveOutcome;
+use ranks::dimension::LEN;
+
+// A place is an index of the tables, so the kinds of place are numbers with names, and no enum that each step would turn into its index.
 
 // The place of the unbounded leaf.
 pub const UNBOUNDED: usize = 15;
@@ -33,39 +39,43 @@ pub const BOUNDS: usize = 17;
 // The slots of leaf n.
 pub fn part<K, V>(slots: &[Slot<K, V>], n: usize) -> &[Slot<K, V>]
     requires { (length slots.now ≡ node_length) × (n < 18) }
-    ensures { result.now ≡ part n slots.now }
+    ensures part { result.now ≡ part n slots.now }
+    ensures long { length result.now ≡ leaf_length }
 {
-    &slots[15 * n..15 * n + 15]
+    &slots[LEN * n..LEN * n + LEN]
 }
 
-// Files `key` in the array of leaf n.
+// Files `entry` in the array of leaf n.
 pub fn insert_in<K: Comparable<K> + Copy, V: Copy>(
     array: &mut Array,
     slots: &mut [Slot<K, V>],
     n: usize,
-    key: K,
-    val: V,
+    entry: Slot<K, V>,
     upsert: bool,
-) -> InsertResult
+) -> Result<(), Refusal>
     requires size { length slots.old ≡ node_length }
     requires inside { n < 17 }
     ensures others { (m : ℕ) → m < 18 → m ≢ n → part m slots.new ≡ part m slots.old }
-    ensures unchanged { (insert_number result ≢ 0) → slots.new ≡ slots.old }
-    ensures filled { insert_number result ≡ 0 → Filled (state_of array.old) (state_of array.new) }
-    ensures inserted { Sorted K.Equivalent.order (state_of array.old).ranks (part n slots.old) → Inserted K.Equivalent.order array.old (part n slots.old) (record { key = key; val = val }) upsert array.new (part n slots.new) result }
+    ensures refused { IfErr result FilingRefusal }
+    ensures unchanged { OnErr result ((array.new ≡ array.old) × (slots.new ≡ slots.old)) }
+    ensures filled { OnOk result (Filled (state_of array.old) (state_of array.new)) }
+    ensures inserted { Sorted K.Equivalent.order (state_of array.old).ranks (part n slots.old) → Inserted K.Equivalent.order array.old (part n slots.old) entry upsert array.new (part n slots.new) result }
 {
-    array.insert(&mut slots[15 * n..15 * n + 15], key, val, upsert)
+    array.insert(&mut slots[LEN * n..LEN * n + LEN], entry, upsert)
 }
 
+// Slots are lent at each call, and may hold anything: so each call asks for itself that they are 270, and says what it does where ranks
+// order their keys.
 impl Table {
     // A node with nothing in it, whatever the slots hold.
     pub fn new<K: Equivalent<K>, V>() -> Table
-        ensures { (slots : List (slot.Slot K V)) → (node_of result slots ≡ fresh) × Kept K.Equivalent.order result slots }
+        ensures fresh { (slots : List (slot.Slot K V)) → (node_of result slots ≡ fresh) × Kept K.Equivalent.order result slots }
+        ensures blank { (n : ℕ) → state_no result.leaves n ≡ blank }
     {
         Table {
             children: Array::new(),
             seats: [0, 1, 2, 3, 4, 5, 6, 7, 8, 9, 10, 11, 12, 13, 14, 15, 16],
-            leaves: [Array::new(); 17],
+            leaves: [Array::new(); LEAVES],
             gone: false,
         }
     }
@@ -76,7 +86,7 @@ impl Table {
         ensures value { result ≡ slice_index self.now.seats t }
         ensures inside { result < 17 }
     {
-        self.seats[t] as usize
+        usize::from(self.seats[t])
     }
 
     // The place of the leaf that `key` goes to.
@@ -88,14 +98,13 @@ impl Table {
         requires { length slots.now ≡ node_length }
         ensures inside { result ≤ 15 }
         ensures live { result < 15 → 0 < slice_index (state_of self.now.children).ranks result }
-        ensures aimed { Kept K.Equivalent.order self.now slots.now → Aimed (state_of self.now.children).ranks (sides K.Equivalent.order (Q.Equivalent.spells key.now) (part 17 slots.now)) result }
-        ensures leaf { Kept K.Equivalent.order self.now slots.now → rows.target K.Equivalent.order (K.Equivalent.order.place (Q.Equivalent.spells key.now)) (row_of self.now slots.now) ≡ leaf_at self.now slots.now result }
-        ensures last { Kept K.Equivalent.order self.now slots.now → rows.at_edge K.Equivalent.order (K.Equivalent.order.place (Q.Equivalent.spells key.now)) (row_of self.now slots.now) ≡ (result == 15) }
+        ensures aimed { Arranged K.Equivalent.order self.now slots.now → Aimed (state_of self.now.children).ranks (sides K.Equivalent.order (Q.Equivalent.spells key.now) (part 17 slots.now)) result }
+        ensures leaf { Arranged K.Equivalent.order self.now slots.now → rows.target K.Equivalent.order (K.Equivalent.order.place (Q.Equivalent.spells key.now)) (row_of self.now slots.now) ≡ leaf_at self.now slots.now result }
+        ensures last { Arranged K.Equivalent.order self.now slots.now → rows.at_edge K.Equivalent.order (K.Equivalent.order.place (Q.Equivalent.spells key.now)) (row_of self.now slots.now) ≡ (result == 15) }
     {
-        match self.children.min_greater_equal(part(slots, BOUNDS), key) {
-            Some(pos) => pos,
-            None => UNBOUNDED,
-        }
+        self.children
+            .min_greater_equal(part(slots, BOUNDS), key)
+            .unwrap_or(UNBOUNDED)
     }
 
     // The live entry at the place of `key`.
@@ -105,7 +114,8 @@ impl Table {
         key: &Q,
     ) -> Option<Slot<K, V>>
         requires { length slots.now ≡ node_length }
-        ensures { Kept K.Equivalent.order self.now slots.now → told K.Equivalent.order (found_in result) ≡ find K.Equivalent.order (K.Equivalent.order.place (Q.Equivalent.spells key.now)) (node_of self.now slots.now) }
+        ensures answer { Arranged K.Equivalent.order self.now slots.now → told K.Equivalent.order (found_in result) ≡ find K.Equivalent.order (K.Equivalent.order.place (Q.Equivalent.spells key.now)) (node_of self.now slots.now) }
+        ensures entry { Arranged K.Equivalent.order self.now slots.now → self.now.gone ≡ false → found_in result ≡ held K.Equivalent.order (K.Equivalent.order.place (Q.Equivalent.spells key.now)) (row_of self.now slots.now) }
     {
         if self.gone {
             return None;
@@ -114,50 +124,48 @@ impl Table {
         self.leaves[n].search_entry(part(slots, n), key)
     }
 
-    // Files `key` in the leaf of place t, if that has room.
+    // Files `entry` in the leaf of place t, if that has room.
     pub fn insert_at<K: Comparable<K> + Copy, V: Copy>(
-        self,
+        &mut self,
         slots: &mut [Slot<K, V>],
         t: usize,
-        key: K,
-        val: V,
+        entry: Slot<K, V>,
         upsert: bool,
-    ) -> (Table, InsertResult)
+    ) -> Result<(), Refusal>
         requires size { length slots.old ≡ node_length }
         requires inside { t ≤ 15 }
-        ensures unchanged { (insert_number result.1 ≢ 0) → (result.0 ≡ self) × (slots.new ≡ slots.old) }
-        ensures filed { Sorted K.Equivalent.order (state_at self t).ranks (slots_at self slots.old t) → FiledAt K.Equivalent.order self slots.old t (record { key = key; value = val }) upsert result.0 slots.new result.1 }
+        ensures only { OnlyLeaf self.old slots.old (slice_index self.old.seats t) self.new slots.new }
+        ensures refused { IfErr result FilingRefusal }
+        ensures unchanged { OnErr result ((self.new ≡ self.old) × (slots.new ≡ slots.old)) }
+        ensures filled { OnOk result (Filled (state_at self.old t) (state_at self.new t)) }
+        ensures filed { Sorted K.Equivalent.order (state_at self.old t).ranks (slots_at self.old slots.old t) → FiledAt K.Equivalent.order self.old slots.old t (entry_of entry) upsert self.new slots.new result }
     {
         let n = self.seat(t);
-        let mut leaves = self.leaves;
-        match insert_in(&mut leaves[n], slots, n, key, val, upsert) {
-            InsertResult::Success => (self.with_leaves(leaves), InsertResult::Success),
-            InsertResult::Duplicate => (self, InsertResult::Duplicate),
-            InsertResult::Full => (self, InsertResult::Full),
-        }
+        // the whole field is borrowed: in a record with a ghost field `self.leaves[n]` itself cannot be lent to a call
+        let leaves = &mut self.leaves;
+        insert_in(&mut leaves[n], slots, n, entry, upsert)
     }
 
     // Strikes the place of `key` in the leaf of place t, if the condition says yes to its value.
     pub fn remove_at<K: Equivalent<K>, V, Q: Comparable<K>, C: Condition<V>>(
-        self,
+        &mut self,
         slots: &[Slot<K, V>],
         t: usize,
         key: &Q,
         condition: &mut C,
-    ) -> (Table, RemoveResult)
+    ) -> Result<RemoveOutcome, Refusal>
         requires size { length slots.now ≡ node_length }
         requires inside { t ≤ 15 }
-        ensures unchanged { (remove_number result.1 ≢ 0) → result.0 ≡ self }
-        ensures struck { Sorted K.Equivalent.order (state_at self t).ranks (slots_at self slots.now t) → StruckAt K.Equivalent.order (C.Condition.verdict condition.old) self slots.now t (K.Equivalent.order.place (Q.Equivalent.spells key.now)) result.0 result.1 }
-        ensures asked { Sorted K.Equivalent.order (state_at self t).ranks (slots_at self slots.now t) → condition.new ≡ asked C.Condition.after condition.old (lookup K.Equivalent.order (K.Equivalent.order.place (Q.Equivalent.spells key.now)) (lives (leaf_at self slots.now t))) }
+        ensures only { OnlyLeaf self.old slots.now (slice_index self.old.seats t) self.new slots.now }
+        ensures refused { IfErr result StrikeRefusal }
+        ensures unchanged { OnErr result (self.new ≡ self.old) }
+        ensures off { IfOk result (Struck (state_at self.old t) (state_at self.new t)) }
+        ensures struck { Sorted K.Equivalent.order (state_at self.old t).ranks (slots_at self.old slots.now t) → StruckAt K.Equivalent.order (C.Condition.verdict condition.old) self.old slots.now t (K.Equivalent.order.place (Q.Equivalent.spells key.now)) self.new result }
+        ensures asked { Sorted K.Equivalent.order (state_at self.old t).ranks (slots_at self.old slots.now t) → condition.new ≡ asked C.Condition.after condition.old (lookup K.Equivalent.order (K.Equivalent.order.place (Q.Equivalent.spells key.now)) (lives (leaf_at self.old slots.now t))) }
     {
         let n = self.seat(t);
-        let mut leaves = self.leaves;
-        match leaves[n].remove_if(part(slots, n), key, condition) {
-            RemoveResult::Success => (self.with_leaves(leaves), RemoveResult::Success),
-            RemoveResult::Retired => (self.with_leaves(leaves), RemoveResult::Retired),
-            RemoveResult::Fail => (self, RemoveResult::Fail),
-            RemoveResult::Frozen => (self, RemoveResult::Frozen),
-        }
+        // borrowed as in `insert_at`
+        let leaves = &mut self.leaves;
+        leaves[n].remove_if(part(slots, n), key, condition)
     }
 }

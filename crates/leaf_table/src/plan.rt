@@ -7,7 +7,7 @@ ghost use Rattle.leaf.specs.Rules.{state_of};
 ghost use Rattle.leaf_table.specs.Plans.{planned, Held};
 
 use leaf::array::Array;
-use leaf::exit_guard::FreezeGuard;
+use leaf::exit_guard::{ExitGuard, Unfreeze};
 
 #[derive(Clone, Copy)]
 pub(crate) enum Plan {
@@ -27,7 +27,7 @@ pub(crate) fn prepare(array: &mut Array, full: bool, beyond: bool) -> Plan
     ensures held { Held (state_of array.old) result (state_of array.new) }
 {
     array.freeze();
-    let guard = FreezeGuard { array };
+    let guard = ExitGuard::<Unfreeze>::new(array);
     let (boundary, len, ordered) = guard.array.optimal_boundary();
     if boundary < len && full {
         return Plan::Full;

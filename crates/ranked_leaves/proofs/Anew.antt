@@ -3,6 +3,7 @@ use Rattle.std.proofs.Common.{◌≡◌, ℕ, zero, suc, ◌+◌, ◌^◌, ◌<�
 use lib.Count.{ones}
 use Rattle.std.specs.List.{slice_get, AllByRecursion}
 use Rattle.std.proofs.lemmas.List.{same_lists, get_or_default}
+use Rattle.std.proofs.lemmas.Option.{slice_get_within}
 use Rattle.std.proofs.lemmas.Bool.{cases_lt}
 use Rattle.keys.specs.Orders.{Order, before}
 use Rattle.ranks.specs.Dimensions.{slot_pos}
@@ -14,9 +15,8 @@ use Rattle.leaf.specs.Rules.{state_of}
 use Rattle.leaf.specs.Slots.{Sorted}
 use Rattle.leaf.specs.declared.array.Array.{Array}
 use Rattle.leaf.specs.declared.data_block.Slot.{Slot}
-use Rattle.leaf.proofs.Files.{nth_lt, made_same}
 use Rattle.leaf.proofs.Sides.{nth_in}
-use Rattle.leaf.proofs.Wholes.{whole_out}
+use Rattle.leaf.proofs.Wholes.{whole_out, made_same}
 use Rattle.ranked_leaves.specs.Ranked.{Ranked, numbered, anew}
 use Rattle.leaf_lists.specs.Stands.{entry_of}
 use Rattle.ranked_leaves.specs.RanksStand.{ranked_of}
@@ -32,18 +32,18 @@ module _ {K V : Type 0} (a : Array) (slots : List (Slot K V)) (n : length slots 
 
 module _ {K V : Type 0} where
   numbered_at : (n : ℕ) (es : List (Entry K V)) (i : ℕ) (x : Ranked K V) → slice_get (numbered n es) i ≡ Some x → (x.rank ≡ n + i) × (slice_get es i ≡ Some x.entry)
-  numbered_at n [] i x e = absurd (omega (arith, nth_lt [] i x e))
+  numbered_at n [] i x e = absurd (omega (arith, slice_get_within [] i x e))
   numbered_at n (y ∷ es) zero x e = let z : record { rank = n; entry = y } ≡ x = cc in (omega (arith, ap (λ k. k.rank) z), ap (λ k. Some k.entry) z)
   numbered_at n (y ∷ es) (suc i) x e = let h = numbered_at (suc n) es i x e in (omega (arith, h.0), h.1)
 
   all_at : (P : Entry K V → Type 0) (es : List (Entry K V)) (i : ℕ) (x : Entry K V) → slice_get es i ≡ Some x → AllByRecursion P es → P x
-  all_at P [] i x e all = absurd (omega (arith, nth_lt [] i x e))
+  all_at P [] i x e all = absurd (omega (arith, slice_get_within [] i x e))
   all_at P (y ∷ es) zero x e all = let z : y ≡ x = cc in subst P z all.0
   all_at P (y ∷ es) (suc i) x e all = all_at P es i x e all.1
 
 module _ {K V : Type 0} (O : Order K) where
   ascending_at : (es : List (Entry K V)) (i j : ℕ) (x y : Entry K V) → Ascending O es → i < j → slice_get es i ≡ Some x → slice_get es j ≡ Some y → O.way (placed O x) (placed O y) ≡ before
-  ascending_at [] i j x y up l e f = absurd (omega (arith, nth_lt [] i x e))
+  ascending_at [] i j x y up l e f = absurd (omega (arith, slice_get_within [] i x e))
   ascending_at (z ∷ es) i zero x y up l e f = absurd (omega arith)
   ascending_at (z ∷ es) zero (suc j) x y up l e f = let k : z ≡ x = cc in subst (λ x. O.way (placed O x) (placed O y) ≡ before) k (all_at _ es j y f up.0)
   ascending_at (z ∷ es) (suc i) (suc j) x y up l e f = ascending_at es i j x y up.1 (omega arith) e f

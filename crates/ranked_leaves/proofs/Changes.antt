@@ -17,6 +17,8 @@ use Rattle.leaf.specs.Slots.{sides, Sorted}
 use Rattle.leaf.specs.declared.array.Array.{Array}
 use Rattle.leaf.specs.declared.data_block.Slot.{Slot}
 use Rattle.leaf.proofs.Files.{nth_other}
+use Rattle.leaf.proofs.Finds.{only_one}
+use Rattle.leaf.proofs.Holders.{Holds, Held, held}
 use Rattle.leaf.proofs.Sides.{side_at}
 use Rattle.ranked_leaves.specs.Ranked.{Ranked, RankedLeaf, raised, rank_of, cleared, taken}
 use Rattle.leaf_lists.specs.Stands.{entry_of}
@@ -24,7 +26,7 @@ use Rattle.ranked_leaves.specs.RanksStand.{onto_ranked, ranked_from, ranked_in, 
 use Rattle.leaf_lists.proofs.Uses.{slot_other}
 use Rattle.leaf_lists.proofs.Changes.{nth_set}
 use Rattle.leaf_lists.proofs.Counts.{live_in, live_used, few_uses}
-use Rattle.leaf_lists.proofs.Looks.{Holds, Held, held, meets_one, meets_not, only_one}
+use Rattle.leaf_lists.proofs.Looks.{meets_one, meets_not}
 use Rattle.ranked_leaves.proofs.Ranks.{first, rank_none, rank_one, below_floor}
 
 -- ---- the last use

@@ -14,13 +14,12 @@ use Rattle.leaf.specs.Rules.{floor}
 use Rattle.leaf.specs.Slots.{side_of, side, sides}
 use Rattle.leaf.specs.declared.array.Array.{Array}
 use Rattle.leaf.specs.declared.data_block.Slot.{Slot}
+use Rattle.leaf.proofs.Holders.{Holds, greatest}
 use Rattle.leaf.proofs.Sides.{nth_in, side_at}
 use Rattle.ranked_leaves.specs.Ranked.{Ranked, rank_of, below}
 use Rattle.leaf_lists.specs.Stands.{entry_of}
 use Rattle.ranked_leaves.specs.RanksStand.{onto_ranked, ranked_from, ranked_of}
 use Rattle.leaf_lists.proofs.Counts.{live_in, live_used, few_uses}
-use Rattle.leaf_lists.proofs.Looks.{Holds}
-use Rattle.leaf_lists.proofs.Floors.{greatest}
 
 -- ---- its slots
 

@@ -7,8 +7,6 @@ ghost use Rattle.ranked_leaves.specs.RanksStand.{RanksStand};
 use keys::equivalent::Comparable;
 
 // For every order of keys, every kind of value, every array and whatever its slots hold.
-pub fn ranks_stand<K: Comparable<K>, V>() -> u8
+pub fn ranks_stand<K: Comparable<K>, V>()
     ensures { RanksStand V K.Equivalent.order }
-{
-    0
-}
+{}

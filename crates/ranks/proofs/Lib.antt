@@ -2,5 +2,4 @@ pub mod Words
 pub mod Lifts
 pub mod Uses
 mod Scores
-mod Indexes
 pub mod Cursors

@@ -1,21 +1,15 @@
 -- A pass that raises the ranks above one.
-use Rattle.std.proofs.Common.{◌≡◌, ℕ, zero, suc, ◌+◌, ◌*◌, ◌/◌, ◌^◌, ◌<◌, ◌≤◌, List, [], ◌∷◌, length, get_or, take, drop, sym, refl, ap, ◌∙◌, ap₂, mul-le-mul_left, arith}
-use Rattle.std.proofs.lemmas.List.{length-map}
+use Rattle.std.proofs.Common.{◌≡◌, ℕ, zero, suc, ◌+◌, ◌*◌, ◌^◌, ◌<◌, ◌≤◌, List, [], ◌∷◌, ◌++◌, length, set, append_assoc, append-nil, get_or, take, drop, sym, refl, ap, ◌∙◌, ap₂, arith}
+use Rattle.std.proofs.lemmas.List.{length-map, length-take-le, drop_more, drop_all, take_all, map_more, get_or_at, set_at}
 use Rattle.std.proofs.lemmas.Bool.Decides.{nat_tests}
-use Rattle.ranks.specs.Words.{encode, ranks_of, flags_of, Reads, lift, lifted}
-use Rattle.ranks.proofs.Words.{Next, decode, encode_split, encode_lt, mixed_more, length_digits}
+use Rattle.ranks.specs.Words.{ranks_of, flags_of, Reads, lift, lifted}
+use Rattle.ranks.proofs.Words.{length_digits, put}
 
 pub lift_up : (low r : ℕ) → low < r → lift low r ≡ r + 1
 lift_up low r h = grind (arith, nat_tests)
 
 pub lift_flat : (low r : ℕ) → r ≤ low → lift low r ≡ r + 0
 lift_flat low r h = grind (arith, nat_tests)
-
-lift_ge : (low r : ℕ) → r ≤ lift low r
-lift_ge low r = grind (arith, nat_tests)
-
-lift_le : (low r : ℕ) → lift low r ≤ r + 1
-lift_le low r = grind (arith, nat_tests)
 
 pub length_lifted : (low : ℕ) (rs : List ℕ) → length (lifted low rs) ≡ length rs
 length_lifted low rs = length-map rs (lift low)
@@ -32,48 +26,36 @@ lifted_same low (r ∷ rs) h =
     let e : lift low r ≡ r = omega (arith, lift_flat low r (h 0)) in
     ap₂ ◌∷◌ e (lifted_same low rs (λ p. h (suc p)))
 
-pub lifted_lt : (n low : ℕ) (rs : List ℕ) → ((i : ℕ) → get_or rs i 0 < n) → (i : ℕ) → get_or (lifted low rs) i 0 < n + 1
-lifted_lt n low rs u i = omega (arith, get_or_lifted low rs i, lift_le low (get_or rs i 0), u i)
+-- the ranks in the middle of the pass, which has seen the first n
+abbrev pub lifting : ℕ → List ℕ → ℕ → List ℕ
+lifting low rs n = lifted low (take n rs) ++ drop n rs
 
-lifted_ge : (low : ℕ) (rs : List ℕ) (p : ℕ) → encode (drop p rs) ≤ encode (drop p (lifted low rs))
-lifted_ge low [] zero = omega arith
-lifted_ge low [] (suc p) = omega arith
-lifted_ge low (r ∷ rs) zero = omega (arith, lift_ge low r, lifted_ge low rs 0)
-lifted_ge low (r ∷ rs) (suc p) = lifted_ge low rs p
+pub lifting_all : (low : ℕ) (rs : List ℕ) (n : ℕ) → length rs ≤ n → lifting low rs n ≡ lifted low rs
+lifting_all low rs n h = ap₂ (λ xs ys. lifted low xs ++ ys) (take_all n rs h) (drop_all n rs h) ∙ append-nil (lifted low rs)
 
-lifted_none : (low : ℕ) (rs : List ℕ) (p : ℕ) → encode (drop p rs) ≡ 0 → encode (drop p (lifted low rs)) ≡ 0
-lifted_none low [] zero e = refl
-lifted_none low [] (suc p) e = refl
-lifted_none low (r ∷ rs) zero e = omega (arith, lift_flat low r (omega arith), lifted_none low rs 0 (omega arith))
-lifted_none low (r ∷ rs) (suc p) e = lifted_none low rs p e
+-- one rank more is seen
+module _ (low : ℕ) (rs : List ℕ) (n : ℕ) (h : n < length rs) where
+  before : length (lifted low (take n rs)) ≡ n
+  before = length-map (take n rs) (lift low) ∙ length-take-le n rs (omega arith)
 
--- the word in the middle of the pass, which has the first ranks raised
-abbrev pub Lifting : ℕ → List ℕ → ℕ → ℕ → ℕ → ℕ → Type 0
-Lifting low rs flags rest pos w = w ≡ encode (take pos (lifted low rs)) + 2 ^ (4 * pos) * rest + 2 ^ 60 * flags
+  lifting_at : get_or (lifting low rs n) n 0 ≡ get_or rs n 0
+  lifting_at = rw (drop_more rs n 0 h) (get_or_at _ _ _ 0 n before)
 
-module _ (word low rest pos w b : ℕ) (n : Next (ranks_of word) rest pos) (s : Lifting low (ranks_of word) (flags_of word) rest pos w) (is : lift low (get_or (ranks_of word) pos 0) ≡ get_or (ranks_of word) pos 0 + b) where
-  abbrev rs : List ℕ
-  rs = ranks_of word
+  lifting_more : lifting low rs (n + 1) ≡ set (lifting low rs n) n (lift low (get_or rs n 0))
+  lifting_more = rw (drop_more rs n 0 h, map_more (lift low) rs n 0 h, append_assoc) (sym (set_at _ _ _ _ n before))
 
-  pub lifting_more : Lifting low rs (flags_of word) (rest / 16) (pos + 1) (w + b * 2 ^ (4 * pos))
-  lifting_more =
-      let h : pos < length (lifted low rs) = omega (arith, length_lifted low rs, length_digits 15 word, n.inside) in
-      let d = get_or_lifted low rs pos ∙ is in
-      let m = mixed_more (lifted low rs) pos rest (get_or rs pos 0) (rest / 16) b (encode (take pos (lifted low rs)) + 2 ^ (4 * pos) * rest) h (omega (arith, n.rank)) d refl in
-      omega (arith, s)
+-- the word w in the middle of the pass, and the word w' once slot n is seen and its rank raised by b
+module _ (word low n w b w' : ℕ) (h : n < 15) (s : Reads w (lifting low (ranks_of word) n) (flags_of word)) (e : w' ≡ w + b * 2 ^ (4 * n)) (f : lift low (get_or (ranks_of word) n 0) ≡ get_or (ranks_of word) n 0 + b) (l : get_or (ranks_of word) n 0 + b < 16) where
+  inside : n < length (ranks_of word)
+  inside = omega (arith, length_digits 15 word)
 
-pub lifting_fits : (word low rest pos w : ℕ) → word < 2 ^ 64 → ((i : ℕ) → get_or (ranks_of word) i 0 < 15) → rest ≡ encode (drop pos (ranks_of word)) → Lifting low (ranks_of word) (flags_of word) rest pos w → w < 2 ^ 64
-lifting_fits word low rest pos w f u e s =
-    let rs = ranks_of word in
-    let b = encode_lt (lifted low rs) (lifted_lt 15 low rs u) in
-    let p : 2 ^ (4 * length (lifted low rs)) ≡ 2 ^ 60 = ap (λ x. 2 ^ (4 * x)) (length_lifted low rs ∙ length_digits 15 word) in
-    let m = mul-le-mul_left (2 ^ (4 * pos)) (lifted_ge low rs pos) in
-    let r = ap (λ x. 2 ^ (4 * pos) * x) e in
-    omega (arith, s, encode_split (lifted low rs) pos)
+  here : get_or (ranks_of w) n 0 ≡ get_or (ranks_of word) n 0
+  here = ap (λ rs. get_or rs n 0) s.ranks ∙ lifting_at low (ranks_of word) n inside
 
-pub lifting_all : (word low rest pos w : ℕ) → ((i : ℕ) → get_or (ranks_of word) i 0 < 15) → rest ≡ encode (drop pos (ranks_of word)) → rest ≡ 0 → Lifting low (ranks_of word) (flags_of word) rest pos w → Reads w (lifted low (ranks_of word)) (flags_of word)
-lifting_all word low rest pos w u e z s =
-    let rs = ranks_of word in
-    let k = ap (λ x. 2 ^ (4 * pos) * x) z in
-    let l = ap (λ x. 2 ^ (4 * pos) * x) (lifted_none low rs pos (sym e ∙ z)) in
-    decode w (lifted low rs) (flags_of word) (length_lifted low rs ∙ length_digits 15 word) (lifted_lt 15 low rs u) (omega (arith, s, encode_split (lifted low rs) pos))
+  pub lifting_seen : Reads w' (lifting low (ranks_of word) (n + 1)) (flags_of word)
+  lifting_seen =
+      let t = put w n (get_or (ranks_of word) n 0 + b) w' h l (grind (arith, here)) in
+      record {
+        ranks = t.ranks ∙ ap₂ (λ rs y. set rs n y) s.ranks (sym f) ∙ sym (lifting_more low (ranks_of word) n inside);
+        flags = t.flags ∙ s.flags;
+      }

@@ -1,25 +1,17 @@
 -- Uses and slots: two uses take two slots, and every slot has its use.
-use Rattle.std.proofs.Common.{◌≡◌, ℕ, zero, suc, ◌+◌, ◌-◌, ◌*◌, ◌/◌, ◌%◌, ◌<◌, Bool, true, cond, ◌&&◌, eqb, ltb, sym, refl, ap, ◌∙◌, arith}
+use Rattle.std.proofs.Common.{◌≡◌, ℕ, ◌+◌, ◌-◌, ◌*◌, ◌/◌, ◌%◌, ◌<◌, cond, ltb, sym, ap, ◌∙◌, arith}
 use lib.Count.{ones, ones_step}
-use Rattle.std.proofs.lemmas.Bool.Decides.{Decides-below_and, Decides-eqb, nat_tests}
+use Rattle.std.proofs.lemmas.Bool.Decides.{nat_tests}
 use Rattle.ranks.specs.Dimensions.{slot_pos}
 
 abbrev pub use_of : ℕ → ℕ
 use_of p = cond (ltb p 12) (p - p % 4 + (p + 3) % 4) p
 
-abbrev all_back : ℕ → Bool
-all_back zero = true
-all_back (suc n) = eqb (use_of (slot_pos n)) n && all_back n
-
 use_slot : (b : ℕ) → b < 15 → use_of (slot_pos b) ≡ b
-use_slot = (Decides-below_and (λ n. eqb (use_of (slot_pos n)) n) (λ n. use_of (slot_pos n) ≡ n) all_back (λ n. Decides-eqb (use_of (slot_pos n)) n) refl (λ _. refl) 15).0 refl
-
-abbrev all_forth : ℕ → Bool
-all_forth zero = true
-all_forth (suc n) = eqb (slot_pos (use_of n)) n && all_forth n
+use_slot b h = grind (arith, nat_tests)
 
 pub slot_use : (p : ℕ) → p < 15 → slot_pos (use_of p) ≡ p
-slot_use = (Decides-below_and (λ n. eqb (slot_pos (use_of n)) n) (λ n. slot_pos (use_of n) ≡ n) all_forth (λ n. Decides-eqb (slot_pos (use_of n)) n) refl (λ _. refl) 15).0 refl
+slot_use p h = grind (arith, nat_tests)
 
 pub slot_once : (a b : ℕ) → a < 15 → b < 15 → slot_pos a ≡ slot_pos b → a ≡ b
 slot_once a b ha hb e = sym (use_slot a ha) ∙ ap use_of e ∙ use_slot b hb

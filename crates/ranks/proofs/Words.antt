@@ -1,7 +1,7 @@
 -- The rank word as a list of digits: what it comes to to read, add to and clear a digit.
-use Rattle.std.proofs.Common.{◌≡◌, ℕ, zero, suc, ◌+◌, ◌*◌, ◌/◌, ◌%◌, ◌^◌, ◌<◌, ◌≤◌, ◌&&◌, eqb, List, [], ◌∷◌, length, get_or, take, drop, set, sym, refl, ap, ◌∙◌, subst, ap₂, ⊎_elim, mul_assoc, mul_comm, mul-add, mul_left_comm, arith}
+use Rattle.std.proofs.Common.{◌≡◌, ℕ, zero, suc, ◌+◌, ◌*◌, ◌/◌, ◌%◌, ◌^◌, ◌<◌, ◌≤◌, ◌&&◌, eqb, List, [], ◌∷◌, length, get_or, drop, set, sym, refl, ap, ◌∙◌, subst, ap₂, ⊎_elim, mul_assoc, mul_left_comm, arith}
 use Rattle.std.proofs.lemmas.Bool.Decides.{nat_tests}
-use Rattle.std.proofs.lemmas.Nat.{pow-add, shr-shr, shr_split}
+use Rattle.std.proofs.lemmas.Nat.{pow-add, shr-shr, mod-pow-add}
 use Rattle.std.proofs.lemmas.List.{drop_more, drop_all, length-set}
 use Rattle.std.proofs.lemmas.Bool.{cases_lt}
 use Rattle.ranks.specs.Words.{encode, digits, ranks_of, flags_of, word_of, Reads, is_empty}
@@ -10,12 +10,6 @@ use Rattle.ranks.specs.Words.{encode, digits, ranks_of, flags_of, word_of, Reads
 
 pub unit_suc : (n : ℕ) → 2 ^ (4 * suc n) ≡ 16 * 2 ^ (4 * n)
 unit_suc n = let e : 4 * suc n ≡ 4 + 4 * n = omega arith in ap (λ k. 2 ^ k) e ∙ pow-add 2 4 (4 * n)
-
-shr_suc : (n w : ℕ) → w / 2 ^ (4 * suc n) ≡ w / 16 / 2 ^ (4 * n)
-shr_suc n w = let e : 4 * suc n ≡ 4 + 4 * n = omega arith in ap (λ k. w / 2 ^ k) e ∙ sym (shr-shr w 4 (4 * n))
-
-scale : (a u : ℕ) → a * (16 * u) ≡ 16 * (a * u)
-scale a u = sym (mul_assoc a 16 u) ∙ ap (λ x. x * u) (mul_comm a 16) ∙ mul_assoc 16 a u
 
 -- ---- the digits of a word
 
@@ -28,7 +22,9 @@ pub get_or_digits : (n w p : ℕ) → p < n → get_or (digits n w) p 0 ≡ w / 
 unfolding digits
 get_or_digits zero w p h = absurd (omega arith)
 get_or_digits (suc n) w zero h = omega arith
-get_or_digits (suc n) w (suc p) h = get_or_digits n (w / 16) p (omega arith) ∙ ap (λ x. x % 16) (sym (shr_suc p w))
+get_or_digits (suc n) w (suc p) h =
+    let e : 4 + 4 * p ≡ 4 * suc p = omega arith in
+    get_or_digits n (w / 16) p (omega arith) ∙ ap (λ x. x % 16) (shr-shr w 4 (4 * p) ∙ ap (λ k. w / 2 ^ k) e)
 
 pub digits_lt : (n w p : ℕ) → get_or (digits n w) p 0 < 16
 unfolding digits
@@ -40,13 +36,8 @@ pub encode_digits : (n w : ℕ) → encode (digits n w) ≡ w % 2 ^ (4 * n)
 unfolding digits
 encode_digits zero w = omega arith
 encode_digits (suc n) w =
-    let ih = encode_digits n (w / 16) in
-    let s = shr_split (w / 16) (4 * n) in
-    let t = shr_split w (4 * suc n) in
-    let u = unit_suc n in
-    let v = shr_suc n w in
-    let m = ap (λ x. x * 2 ^ (4 * suc n)) v ∙ ap (λ x. w / 16 / 2 ^ (4 * n) * x) u ∙ scale (w / 16 / 2 ^ (4 * n)) (2 ^ (4 * n)) in
-    omega arith
+    let e : 4 * suc n ≡ 4 * n + 4 = omega arith in
+    omega (arith, encode_digits n (w / 16), ap (λ k. w % 2 ^ k) e, mod-pow-add w (4 * n) 4)
 
 -- ---- a digit put in the place of another: `set` with a sum in place of a difference
 
@@ -55,8 +46,8 @@ encode_set [] p y h = absurd (omega arith)
 encode_set (d ∷ ds) zero y h = omega arith
 encode_set (d ∷ ds) (suc p) y h =
     let ih = encode_set ds p y (omega arith) in
-    let a = ap (λ u. get_or ds p 0 * u) (unit_suc p) ∙ scale (get_or ds p 0) (2 ^ (4 * p)) in
-    let b = ap (λ u. y * u) (unit_suc p) ∙ scale y (2 ^ (4 * p)) in
+    let a = ap (λ u. get_or ds p 0 * u) (unit_suc p) ∙ mul_left_comm (get_or ds p 0) 16 (2 ^ (4 * p)) in
+    let b = ap (λ u. y * u) (unit_suc p) ∙ mul_left_comm y 16 (2 ^ (4 * p)) in
     omega arith
 
 pub encode_lt : (ds : List ℕ) → ((i : ℕ) → get_or ds i 0 < 16) → encode ds < 2 ^ (4 * length ds)
@@ -91,37 +82,6 @@ next rs rest pos n u e nz = ⊎_elim
 
 pub next_of : (w rest pos : ℕ) → rest ≡ encode (drop pos (ranks_of w)) → (rest ≡ 0 → ⊥) → Next (ranks_of w) rest pos
 next_of w rest pos = next (ranks_of w) rest pos (length_digits 15 w) (digits_lt 15 w)
-
--- ---- the first digits and the rest
-
-pub unit_more : (n : ℕ) → 2 ^ (4 * (n + 1)) ≡ 16 * 2 ^ (4 * n)
-unit_more n = let e : 4 * (n + 1) ≡ 4 + 4 * n = omega arith in ap (λ k. 2 ^ k) e ∙ pow-add 2 4 (4 * n)
-
-pub encode_split : (ds : List ℕ) (p : ℕ) → encode ds ≡ encode (take p ds) + 2 ^ (4 * p) * encode (drop p ds)
-encode_split ds zero = omega arith
-encode_split [] (suc p) = omega arith
-encode_split (d ∷ ds) (suc p) =
-    let ih = encode_split ds p in
-    let u = ap (λ u. u * encode (drop p ds)) (unit_suc p) ∙ mul_assoc 16 (2 ^ (4 * p)) (encode (drop p ds)) in
-    omega arith
-
--- M: the digits xs below p, those of rs from p on, of which `rest` is the number. One step on, where digit p of xs is b more than that of rs
-pub mixed_more : (xs : List ℕ) (p rest r q b m : ℕ) → p < length xs → rest ≡ r + 16 * q → get_or xs p 0 ≡ r + b → m ≡ encode (take p xs) + 2 ^ (4 * p) * rest → m + b * 2 ^ (4 * p) ≡ encode (take (p + 1) xs) + 2 ^ (4 * (p + 1)) * q
-mixed_more xs p rest r q b m h e x i =
-    let u = 2 ^ (4 * p) in
-    let a = encode_split xs p in
-    let a' = encode_split xs (p + 1) in
-    let d = ap encode (drop_more xs p 0 h) in
-    let f = encode (drop (p + 1) xs) in
-    let e₁ = ap (λ z. u * z) d ∙ mul-add u (get_or xs p 0) (16 * f) in
-    let e₂ = mul_left_comm u 16 f in
-    let e₃ = ap (λ z. z * f) (unit_more p) ∙ mul_assoc 16 u f in
-    let e₄ = ap (λ z. u * z) x ∙ mul-add u r b in
-    let e₅ = ap (λ z. u * z) e ∙ mul-add u r (16 * q) in
-    let e₆ = mul_left_comm u 16 q in
-    let e₇ = ap (λ z. z * q) (unit_more p) ∙ mul_assoc 16 u q in
-    let e₈ = mul_comm b u in
-    omega arith
 
 -- ---- a word made from ranks and a state
 
@@ -166,17 +126,6 @@ put w p y w' h l e =
     let s = encode_set (ranks_of w) p y (omega arith) in
     decode w' (set (ranks_of w) p y) (flags_of w) (length-set (ranks_of w) p y ∙ n) (set_lt (ranks_of w) p y 16 l (digits_lt 15 w)) (omega (arith, word_split w))
 
-pub word_fits : (w : ℕ) (ds : List ℕ) (s : ℕ) → length ds ≡ 15 → ((i : ℕ) → get_or ds i 0 < 16) → s < 16 → w ≡ word_of ds s → w < 2 ^ 64
-word_fits w ds s n u t e =
-    let p : 2 ^ (4 * length ds) ≡ 2 ^ 60 = ap (λ k. 2 ^ (4 * k)) n in
-    omega (arith, encode_lt ds u)
-
-pub put_fits : (w p y w' : ℕ) → w < 2 ^ 64 → p < 15 → y < 16 → w' + get_or (ranks_of w) p 0 * 2 ^ (4 * p) ≡ w + y * 2 ^ (4 * p) → w' < 2 ^ 64
-put_fits w p y w' f h l e =
-    let n = length_digits 15 w in
-    let s = encode_set (ranks_of w) p y (omega arith) in
-    word_fits w' (set (ranks_of w) p y) (flags_of w) (length-set (ranks_of w) p y ∙ n) (set_lt (ranks_of w) p y 16 l (digits_lt 15 w)) (omega arith) (omega (arith, word_split w))
-
 -- ---- the state, with the ranks kept
 
 pub restate : (w w' s : ℕ) → w' ≡ w % 2 ^ 60 + 2 ^ 60 * s → Reads w' (ranks_of w) s
@@ -191,5 +140,5 @@ pub empty_encode : (rs : List ℕ) → eqb (encode rs) 0 ≡ is_empty rs
 empty_encode [] = refl
 empty_encode (r ∷ rs) = let ih = empty_encode rs in grind (arith, nat_tests)
 
-pub empty_word : (rs : List ℕ) (f : ℕ) → eqb (word_of rs f) 0 ≡ (is_empty rs && eqb f 0)
-empty_word rs f = let e = empty_encode rs in grind (arith, nat_tests)
+pub empty_word : (w : ℕ) (rs : List ℕ) (f : ℕ) → Reads w rs f → eqb w 0 ≡ (is_empty rs && eqb f 0)
+empty_word w rs f t = let e = empty_encode rs in let n = word_split w in let r = ap₂ word_of t.ranks t.flags in grind (arith, nat_tests)

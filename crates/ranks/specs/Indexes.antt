@@ -2,12 +2,14 @@
 -- A cursor is sixteen numbers: first the rank of the slot last given, 0 if none is; then for each rank its slot, 255 if no live slot has it.
 --     At rs n r x       x is the slot below n of rank r, or 255 where there is none
 --     Indexed rs n ix   the cursor ix has the slots below n by rank, and none was given
---     Cursor ix         what every cursor keeps, whatever word it was made from
+--     slots_of xs       the slots of the ranks for which xs stand
 --     ahead ix          the slots that are still to be given, going up; behind ix, going down
 --     given ix          the slot last given
 --     Gives             a step along the slots that are still to be given
 --     InOrder rs ps     ps are the live slots, each once, in order of rank
-use Rattle.std.specs.Prelude.{◌≡◌, ℕ, zero, suc, ◌+◌, ◌-◌, ◌<◌, ◌≤◌, cond, ◌⊎◌, List, [], ◌∷◌, length, drop, Some, None, Option, ◌==◌, ◌≢◌, slice_index}
+use Rattle.std.specs.Prelude.{◌≡◌, ℕ, suc, ◌-◌, ◌<◌, ◌≤◌, cond, not, ◌⊎◌, List, [], ◌∷◌, length, take, drop, reverse, filter, Some, None, Option, ◌==◌, ◌≢◌, slice_index}
+use Rattle.std.specs.Option.{option_or}
+use Rattle.std.specs.Iterator.{YieldsFirst}
 use Rattle.ranks.specs.Dimensions.{leaf_length}
 
 abbrev pub no_slot : ℕ
@@ -21,51 +23,24 @@ pub record Indexed (rs : List ℕ) (n : ℕ) (ix : List ℕ) : Type 0 where
   pub start : slice_index ix 0 ≡ 0
   pub each : (r : ℕ) → 0 < r → r ≤ leaf_length → At rs n r (slice_index ix r)
 
-pub record Cursor (ix : List ℕ) : Type 0 where
-  pub long : length ix ≡ suc leaf_length
-  pub slot : (r : ℕ) → 0 < r → r ≤ leaf_length → (slice_index ix r ≢ no_slot) → slice_index ix r < leaf_length
-  pub last : slice_index ix 0 ≤ leaf_length
-  pub here : 0 < slice_index ix 0 → slice_index ix (slice_index ix 0) < leaf_length
-
-abbrev pub kept : ℕ → List ℕ → List ℕ
-kept x ps = cond (x == no_slot) ps (x ∷ ps)
-
--- the slots of n ranks from r on; of the ranks r to 1
-abbrev pub up_from : List ℕ → ℕ → ℕ → List ℕ
-up_from ix r zero = []
-up_from ix r (suc n) = kept (slice_index ix r) (up_from ix (r + 1) n)
-
-abbrev pub down_from : List ℕ → ℕ → List ℕ
-down_from ix zero = []
-down_from ix (suc r) = kept (slice_index ix (suc r)) (down_from ix r)
+-- the slots among what stands for some ranks
+abbrev pub slots_of : List ℕ → List ℕ
+slots_of xs = filter (λ x. not (x == no_slot)) xs
 
 abbrev pub ahead : List ℕ → List ℕ
-ahead ix = up_from ix (slice_index ix 0 + 1) (leaf_length - slice_index ix 0)
+ahead ix = slots_of (drop (slice_index ix 0) (drop 1 ix))
 
 -- before the first slot is given, the way down begins at the greatest rank
 abbrev pub behind : List ℕ → List ℕ
-behind ix = down_from ix (cond (slice_index ix 0 == 0) leaf_length (slice_index ix 0 - 1))
+behind ix = reverse (slots_of (take (cond (slice_index ix 0 == 0) leaf_length (slice_index ix 0 - 1)) (drop 1 ix)))
 
 abbrev pub given : List ℕ → Option ℕ
 given ix = cond (slice_index ix 0 == 0) None (Some (slice_index ix (slice_index ix 0)))
 
-abbrev pub first : List ℕ → Option ℕ
-first [] = None
-first (p ∷ ps) = Some p
-
-abbrev pub rest : List ℕ → List ℕ
-rest [] = []
-rest (p ∷ ps) = ps
-
-abbrev pub latest : Option ℕ → Option ℕ → Option ℕ
-latest None old = old
-latest (Some p) old = Some p
-
 -- r is the first of the slots todo, and those after it are still to be given; where there is none, the cursor stays
-pub record Gives (todo : List ℕ → List ℕ) (ix ix' : List ℕ) (r : Option ℕ) : Type 0 where
-  pub gave : r ≡ first (todo ix)
-  pub left : todo ix' ≡ rest (todo ix)
-  pub last : given ix' ≡ latest r (given ix)
+pub record Gives (todo : List ℕ → List ℕ) (ix : List ℕ) (r : Option ℕ) (ix' : List ℕ) : Type 0 where
+  pub gave : YieldsFirst todo ix r ix'
+  pub last : given ix' ≡ option_or r (given ix)
   pub same : drop 1 ix' ≡ drop 1 ix
 
 -- each slot has a greater rank than the one before it

@@ -18,6 +18,7 @@ fn score(metadata: u64, uses: usize) -> (u8, u8)
 {
     let mut doubled = 1;
     let mut len = 0;
+    // As in the word, 0 is no rank.
     let mut prev_rank = 0;
     for bitmap_pos in 0..uses {
         let rank = rank_at(metadata, slot_pos(bitmap_pos));
@@ -32,13 +33,13 @@ fn score(metadata: u64, uses: usize) -> (u8, u8)
     (doubled, len)
 }
 
-// The boundary, the live count, and whether all the slots of a full leaf ascend in order of use.
+// The boundary, the live count, and whether all the slots of a full leaf ascend in order of use: a triple, as the original answers it.
 pub fn optimal_boundary(metadata: u64, bitmap: u32) -> (u8, u8, bool)
     requires { count_ones bitmap ≤ leaf_length }
     ensures { result ≡ boundary_of (live_count (by_use (ranks_of metadata) 0 (count_ones bitmap))) (rises 0 (by_use (ranks_of metadata) 0 (count_ones bitmap))) }
 {
     let (doubled, len) = score(metadata, bitmap.count_ones() as usize);
-    if len as usize <= 3 * LEN / 4 {
+    if usize::from(len) <= 3 * LEN / 4 {
         // Expect the caller to make the leaf anew.
         return (LEN as u8, len, false);
     }
@@ -47,5 +48,5 @@ pub fn optimal_boundary(metadata: u64, bitmap: u32) -> (u8, u8, bool)
     } else {
         doubled / 2
     };
-    (boundary, len, doubled as usize == 2 * LEN - 1)
+    (boundary, len, usize::from(doubled) == 2 * LEN - 1)
 }

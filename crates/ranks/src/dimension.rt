@@ -1,7 +1,8 @@
 // The rank word of a leaf array: fifteen ranks of four bits each, and the bits for retired and frozen.
 //
 // Ported from `Dimension` in `tree_index/leaf.rs` of scc 3.8.8 (Apache-2.0), and changed: for words of 64 bits alone, over plain
-// numbers in place of atomics; `with_rank`, `raise_above` and `cleared` name steps that are written out there.
+// numbers in place of atomics; `with_rank`, `raise_above` and `cleared` name steps that are written out there, and `raise_above` is a pass of
+// its own over all fifteen slots.
 ghost use Rattle.std.specs.Prelude.{◌≡◌, ℕ, ◌+◌, ◌*◌, ◌%◌, ◌^◌, ◌<◌, slice_index, slice_set};
 ghost use Rattle.ranks.specs.Dimensions.{leaf_length, slot_pos};
 ghost use Rattle.ranks.specs.Words.{ranks_of, flags_of, Reads, is_empty, is_retired, is_frozen, lifted, cleared_flags};
@@ -37,7 +38,7 @@ pub fn slot_pos(bitmap_pos: usize) -> usize
     }
 }
 
-// The rank of slot `pos`.
+// The rank of slot `pos`. Slots are plain numbers here: a type for those below `LEN` would be wrapped at each turn of a loop.
 pub fn rank_at(metadata: u64, pos: usize) -> u8
     requires { pos < leaf_length }
     ensures value { result ≡ slice_index (ranks_of metadata) pos }
@@ -51,7 +52,7 @@ fn field(rank: u8, pos: usize) -> u64
     requires { (rank < 16) × (pos < leaf_length) }
     ensures { result ≡ rank * 2 ^ (4 * pos) }
 {
-    (rank as u64) << (BITS * pos)
+    u64::from(rank) << (BITS * pos)
 }
 
 // The word with `rank` at slot `pos`.
@@ -68,14 +69,10 @@ pub fn raise_above(metadata: u64, low: u8) -> u64
     ensures { Reads result (lifted low (ranks_of metadata)) (flags_of metadata) }
 {
     let mut raised = metadata;
-    let mut rest = metadata % FLAGS;
-    let mut pos = 0;
-    while rest != 0 {
-        if (rest % BASE) as u8 > low {
+    for pos in 0..LEN {
+        if rank_at(metadata, pos) > low {
             raised += field(1, pos);
         }
-        rest /= BASE;
-        pos += 1;
     }
     raised
 }
@@ -96,6 +93,7 @@ pub fn is_empty(metadata: u64) -> bool
     metadata % FLAGS == 0
 }
 
+// This and the next are one line each, under the names of the original: one function over the bit would be no plainer.
 pub fn is_retired(metadata: u64) -> bool
     ensures { result ≡ is_retired (flags_of metadata) }
 {

@@ -1,32 +1,25 @@
-use Rattle.std.proofs.Common.{arith}
-use Rattle.ranks.proofs.Words.{rests_at_start, next_of}
-use Rattle.ranks.proofs.Lifts.{lift_up, lift_flat, lifting_more, lifting_fits, lifting_all}
+use Rattle.std.proofs.Common.{◌+◌, subst, arith}
+use Rattle.ranks.specs.Words.{ranks_of, flags_of, Reads}
+use Rattle.ranks.proofs.Words.{length_digits}
+use Rattle.ranks.proofs.Lifts.{lift_up, lift_flat, lifting_seen, lifting_all}
 use Rattle.ranks.proofs.dimension.raise_above.Goals as goal
-use Rattle.ranks.proofs.dimension.raise_above.Goals.{then-rest-low, else-rest-low}
-
-pub loop-rest-init : goal.loop-rest-init
-loop-rest-init c = (λ _. omega arith, rests_at_start c.args.metadata, omega arith)
+use Rattle.ranks.proofs.dimension.raise_above.Goals.{then-rank_at-low, else-rank_at-low}
 
 pub overflow_add-raised : goal.overflow_add-raised
 overflow_add-raised c =
-    let lp = c.loop-rest in
-    let n = next_of c.args.metadata lp.rest lp.pos lp.invariant.1 c.loop-rest-test.true in
-    let m = lifting_more c.args.metadata c.args.low lp.rest lp.pos lp.raised 1 n lp.invariant.2 (lift_up c.args.low _ (omega (arith, n.rank))) in
-    let f = lifting_fits c.args.metadata c.args.low _ _ _ (omega arith) c.requires n.left m in
-    omega (arith, c.field-raised.ensures)
+    let up = lifting_seen _ _ _ _ 1 (c.loop-pos.raised + c.field-raised.result) c.loop-pos-test.true c.loop-pos.invariant (omega (arith, c.field-raised.ensures)) (lift_up _ _ (omega (arith, c.rank_at.ensures.value))) (omega (arith, c.requires c.loop-pos.pos)) in
+    omega (arith, up.flags)
 
-pub loop-rest-preserved : goal.loop-rest-preserved
-loop-rest-preserved c =
-    let lp = c.loop-rest in
-    let n = next_of c.args.metadata lp.rest lp.pos lp.invariant.1 c.loop-rest-test.true in (
-      λ h. (next_of c.args.metadata _ _ n.left (λ z. omega arith)).inside,
-      n.left,
-      elim c.if-rest-low.branch [
-        | then-rest-low w ↦ omega (arith, w.raised-is, w.field-raised.ensures, lifting_more c.args.metadata c.args.low lp.rest lp.pos lp.raised 1 n lp.invariant.2 (lift_up c.args.low _ (omega (arith, n.rank))))
-        | else-rest-low w ↦ omega (arith, w.raised-is, lifting_more c.args.metadata c.args.low lp.rest lp.pos lp.raised 0 n lp.invariant.2 (lift_flat c.args.low _ (omega (arith, n.rank))))
-      ],
-    )
+pub loop-pos-preserved : goal.loop-pos-preserved
+loop-pos-preserved c =
+    elim c.if-rank_at-low.branch [
+      | then-rank_at-low w ↦ lifting_seen _ _ _ _ 1 _ c.loop-pos-test.true c.loop-pos.invariant (omega (arith, w.raised-is, w.field-raised.ensures)) (lift_up _ _ (omega (arith, c.rank_at.ensures.value))) (omega (arith, c.requires c.loop-pos.pos))
+      | else-rank_at-low w ↦ lifting_seen _ _ _ _ 0 _ c.loop-pos-test.true c.loop-pos.invariant (omega (arith, w.raised-is)) (lift_flat _ _ (omega (arith, c.rank_at.ensures.value))) (omega (arith, c.requires c.loop-pos.pos))
+    ]
 
 pub returns : goal.returns
 returns c =
-    lifting_all c.args.metadata c.args.low _ _ _ c.requires c.loop-rest.invariant.1 c.loop-rest-test.false c.loop-rest.invariant.2
+    subst
+    (λ ds. Reads c.loop-pos.raised ds (flags_of c.args.metadata))
+    (lifting_all c.args.low (ranks_of c.args.metadata) c.loop-pos.pos (omega (arith, length_digits 15 c.args.metadata)))
+    c.loop-pos.invariant

@@ -7,8 +7,7 @@ use Rattle.ranks.proofs.Uses.{ones_more, slot_lt}
 use Rattle.leaf.specs.Seeks.{taken}
 use Rattle.leaf.proofs.Effects.{took}
 use Rattle.leaf.proofs.Finds.{filed_is}
-use Rattle.leaf.proofs.Files.{made_same}
-use Rattle.leaf.proofs.Wholes.{whole_out, whole_more, whole_took, not_full}
+use Rattle.leaf.proofs.Wholes.{made_same, whole_out, whole_more, whole_took, not_full}
 use Rattle.leaf.proofs.array.Array.insert_dry.Goals as goal
 
 pub slot_pos-requires : goal.slot_pos-requires

@@ -1,8 +1,6 @@
 use Rattle.std.proofs.Common.{sym, refl, ◌∙◌}
 use Rattle.std.proofs.lemmas.Bool.{cond-false, ne_eqb}
-use Rattle.leaf.proofs.Wholes.{whole_out, whole_struck}
-use Rattle.leaf.proofs.Files.{made_same}
-use Rattle.leaf.proofs.Strikes.{retired_word}
+use Rattle.leaf.proofs.Wholes.{made_same, whole_out, whole_struck, retired_word}
 use Rattle.leaf.proofs.array.Array.remove_unchecked.Goals as goal
 
 pub invariant_of-self : goal.invariant_of-self

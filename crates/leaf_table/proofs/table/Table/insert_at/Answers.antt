@@ -1,59 +1,27 @@
-use Rattle.std.proofs.Common.{get_or, refl, ◌∙◌, arith}
-use Rattle.std.proofs.lemmas.List.{length-set}
-use Rattle.leaf.specs.declared.data_block.Slot.{Slot}
-use Rattle.leaf_table.proofs.Sounds.{sound_out, state_read, marked_put}
+use Rattle.std.proofs.lemmas.Result.{on_ok_weaker, on_err_weaker}
+use Rattle.std.proofs.Common.{ap}
+use Rattle.leaf.specs.Calls.{Filled}
+use Rattle.leaf.specs.Rules.{state_of}
+use Rattle.leaf_table.proofs.Sounds.{leaf_back}
 use Rattle.leaf_table.proofs.Leaves.{marked_filled}
-use Rattle.leaf_table.proofs.Steps.{grown_at, duplicate_at, full_at}
+use Rattle.leaf_table.proofs.Steps.{Seat, sound_step, at_place, only_put, filed_at}
 use Rattle.leaf_table.proofs.table.Table.insert_at.Goals as goal
 
-pub with_leaves-requires : goal.with_leaves-requires
-with_leaves-requires g c =
-    let rec = c.args.self in
-    let n = c.seat-n.result in
-    record {
-      table = length-set rec.leaves n _ ∙ (sound_out rec.sound).table;
-      marked = marked_put n _ c.seat-n.ensures.inside (marked_filled _ _ (c.in-Success.ensures.filled refl)) (sound_out rec.sound);
-    }
+pub invariant_of-self : goal.invariant_of-self
+invariant_of-self g c =
+    let e = c.insert_in.ensures in
+    record { sound = sound_step c.args.self.now c.args.t (record { inside = c.requires.inside; number = c.seat-n.result; is = c.seat-n.ensures.value; past = c.index-leaves-n.result }) c.insert_in.new.array c.insert_in.result (on_ok_weaker c.insert_in.result (λ f _. marked_filled _ _ f) e.filled) (on_err_weaker c.insert_in.result (λ u. ap state_of u.0) e.unchanged) }
 
-pub returns-in-Success : goal.returns-in-Success
-returns-in-Success g c =
-    let rec = c.args.self in
+pub returns : goal.returns
+returns g c =
+    let rec = c.args.self.now in
     let slots = c.args.slots.now in
-    let n = c.seat-n.result in
-    let new : Slot _ _ = record { key = c.args.key; val = c.args.val } in
-    let d = c.index-leaves-n.result in
-    let is = state_read rec.leaves n d (omega (arith, c.seat-n.ensures.inside, (sound_out rec.sound).table)) in
-    let e = c.in-Success.ensures in
-    let p = c.with_leaves.ensures in
+    let seat : Seat rec c.args.t = record { inside = c.requires.inside; number = c.seat-n.result; is = c.seat-n.ensures.value; past = c.index-leaves-n.result } in
+    let e = c.insert_in.ensures in
     record {
-      unchanged = λ no. absurd (no refl);
-      filed = λ so. grown_at g.K.Equivalent.order g.met.K.Equivalent.lawful rec slots c.requires.size c.args.t n c.requires.inside c.seat-n.ensures.value (get_or rec.leaves n d) is so new c.args.upsert c.insert_in.new.array c.insert_in.new.slots c.with_leaves.result (record { children = p.children; seats = p.seats; leaves = p.leaves; gone = p.gone; others = e.others }) e.inserted;
-    }
-
-pub returns-in-Duplicate : goal.returns-in-Duplicate
-returns-in-Duplicate g c =
-    let rec = c.args.self in
-    let slots = c.args.slots.now in
-    let n = c.seat-n.result in
-    let new : Slot _ _ = record { key = c.args.key; val = c.args.val } in
-    let d = c.index-leaves-n.result in
-    let is = state_read rec.leaves n d (omega (arith, c.seat-n.ensures.inside, (sound_out rec.sound).table)) in
-    let e = c.in-Duplicate.ensures in
-    record {
-      unchanged = λ no. (refl, e.unchanged no);
-      filed = λ so. duplicate_at g.K.Equivalent.order g.met.K.Equivalent.lawful rec slots c.requires.size c.args.t n c.requires.inside c.seat-n.ensures.value (get_or rec.leaves n d) is so new c.args.upsert c.insert_in.new.array c.insert_in.new.slots rec e.inserted;
-    }
-
-pub returns-in-Full : goal.returns-in-Full
-returns-in-Full g c =
-    let rec = c.args.self in
-    let slots = c.args.slots.now in
-    let n = c.seat-n.result in
-    let new : Slot _ _ = record { key = c.args.key; val = c.args.val } in
-    let d = c.index-leaves-n.result in
-    let is = state_read rec.leaves n d (omega (arith, c.seat-n.ensures.inside, (sound_out rec.sound).table)) in
-    let e = c.in-Full.ensures in
-    record {
-      unchanged = λ no. (refl, e.unchanged no);
-      filed = λ so. full_at g.K.Equivalent.order g.met.K.Equivalent.lawful rec slots c.requires.size c.args.t n c.requires.inside c.seat-n.ensures.value (get_or rec.leaves n d) is so new c.args.upsert c.insert_in.new.array c.insert_in.new.slots rec e.inserted;
+      only = only_put rec c.args.t seat slots c.insert_in.new.array _ c.insert_in.new.slots e.others;
+      refused = e.refused;
+      unchanged = on_err_weaker c.insert_in.result (λ u. (leaf_back rec seat.number seat.past c.insert_in.new.array _ u.0, u.1)) e.unchanged;
+      filled = on_ok_weaker c.insert_in.result (at_place rec c.args.t seat c.insert_in.new.array Filled) e.filled;
+      filed = λ so. filed_at rec c.args.t seat slots g.K.Equivalent.order g.met.K.Equivalent.lawful c.requires.size so c.args.entry c.args.upsert c.insert_in.new.array _ c.insert_in.new.slots e.others c.insert_in.result e.inserted;
     }

@@ -6,7 +6,7 @@ use Rattle.leaf_table.proofs.table.Table.new.Goals as goal
 pub invariant_of-result : goal.invariant_of-result
 invariant_of-result g c = record { sound = ∣ sound_fresh c.new.result c.new-2.result c.new.ensures c.new-2.ensures ∣₁ }
 
-pub returns : goal.returns
-returns g c slots =
+pub returns-clause-fresh : goal.returns-clause-fresh
+returns-clause-fresh g c slots =
     let each = λ (n : ℕ). all_fresh c.new-2.result 17 n c.new-2.ensures in
     (node_fresh _ slots refl c.new.ensures each, kept_fresh _ slots refl c.new.ensures each g.K.Equivalent.order)

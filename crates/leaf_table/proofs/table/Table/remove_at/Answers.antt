@@ -1,119 +1,37 @@
-use Rattle.std.proofs.Common.{length, get_or, sym, refl, ap, ◌∙◌, subst, arith}
-use Rattle.std.proofs.lemmas.List.{length-set}
-use Rattle.leaf.specs.Calls.{Removed}
+use Rattle.std.proofs.lemmas.Result.{IfOk-weaker, on_err_weaker}
+use Rattle.std.proofs.Common.{get_or, refl, subst}
+use Rattle.leaf.specs.Calls.{Struck, Removed}
 use Rattle.leaf.specs.Rules.{state_of}
 use Rattle.leaf.specs.Slots.{Sorted}
-use Rattle.leaf.specs.declared.result.RemoveResult.TheVariants as remove
-use Rattle.leaf_table.specs.Records.{Marked}
-use Rattle.leaf_table.proofs.Parts.{length_part}
-use Rattle.leaf_table.proofs.Sounds.{sound_out, state_read, marked_put}
+use Rattle.leaf_table.proofs.Sounds.{array_of, leaf_back}
 use Rattle.leaf_table.proofs.Strikes.{marked_struck}
-use Rattle.leaf_table.proofs.Steps.{asked_at, alive_at, last_at, spared_at, never_frozen}
+use Rattle.leaf_table.proofs.Steps.{Seat, sound_step, at_place, only_put, asked_at, struck_at}
 use Rattle.leaf_table.proofs.table.Table.remove_at.Goals as goal
 
-pub remove_if-requires : goal.remove_if-requires
-remove_if-requires g c = ap length c.part.ensures ∙ length_part c.seat-n.result c.args.slots.now c.requires.size (omega (arith, c.seat-n.ensures.inside))
+pub invariant_of-self : goal.invariant_of-self
+invariant_of-self g c =
+    let e = c.remove_if.ensures in
+    record { sound = sound_step c.args.self.now c.args.t (record { inside = c.requires.inside; number = c.seat-n.result; is = c.seat-n.ensures.value; past = c.index-leaves-n.result }) c.remove_if.new.self c.remove_if.result (IfOk-weaker c.remove_if.result _ _ (λ _ o m. marked_struck (get_or c.args.self.now.leaves c.seat-n.result c.index-leaves-n.result) _ o.at m o.live o.state) e.struck) e.unchanged }
 
-pub with_leaves-requires : goal.with_leaves-requires
-with_leaves-requires g c =
-    let rec = c.args.self in
-    let n = c.seat-n.result in
-    let h = c.seat-n.ensures.inside in
-    let d = c.index-leaves-n.result in
-    let o = c.in-Success.ensures.struck refl in
-    let is = state_read rec.leaves n d (omega (arith, h, (sound_out rec.sound).table)) in
-    record {
-      table = length-set rec.leaves n _ ∙ (sound_out rec.sound).table;
-      marked = marked_put n _ h (marked_struck (get_or rec.leaves n d) _ o.at (subst Marked (sym is) ((sound_out rec.sound).leaf n h)) o.live o.state) (sound_out rec.sound);
-    }
-
-pub with_leaves-requires-in-Retired : goal.with_leaves-requires-in-Retired
-with_leaves-requires-in-Retired g c =
-    let rec = c.args.self in
-    let n = c.seat-n.result in
-    let h = c.seat-n.ensures.inside in
-    let d = c.index-leaves-n.result in
-    let o = c.in-Retired.ensures.struck refl in
-    let is = state_read rec.leaves n d (omega (arith, h, (sound_out rec.sound).table)) in
-    record {
-      table = length-set rec.leaves n _ ∙ (sound_out rec.sound).table;
-      marked = marked_put n _ h (marked_struck (get_or rec.leaves n d) _ o.at (subst Marked (sym is) ((sound_out rec.sound).leaf n h)) o.live o.state) (sound_out rec.sound);
-    }
-
-pub returns-in-Success : goal.returns-in-Success
-returns-in-Success g c =
+pub returns : goal.returns
+returns g c =
     let O = g.K.Equivalent.order in
-    let rec = c.args.self in
+    let rec = c.args.self.now in
     let slots = c.args.slots.now in
-    let n = c.seat-n.result in
-    let x = g.Q.Equivalent.spells c.args.key.now in
-    let d = c.index-leaves-n.result in
-    let a = get_or rec.leaves n d in
-    let is = state_read rec.leaves n d (omega (arith, c.seat-n.ensures.inside, (sound_out rec.sound).table)) in
-    let e = c.in-Success.ensures in
+    let seat : Seat rec c.args.t = record { inside = c.requires.inside; number = c.seat-n.result; is = c.seat-n.ensures.value; past = c.index-leaves-n.result } in
+    let a = get_or rec.leaves seat.number seat.past in
     let a' = c.remove_if.new.self in
-    let done = subst (λ zs. Sorted O (state_of a).ranks zs → Removed O g.C.Condition.verdict g.C.Condition.after a c.args.condition.now x zs a' c.remove_if.new.condition remove.Success) c.part.ensures e.removed in
-    let p = c.with_leaves.ensures in
-    record {
-      unchanged = λ no. absurd (no refl);
-      struck = λ so. alive_at O g.met.K.Equivalent.lawful rec slots c.requires.size c.args.t n c.requires.inside c.seat-n.ensures.value a is so g.C.Condition.verdict g.C.Condition.after c.args.condition.now x a' c.remove_if.new.condition c.with_leaves.result (record { children = p.children; seats = p.seats; leaves = p.leaves; gone = p.gone; others = λ _ _ _. refl }) done;
-      asked = λ so. asked_at O g.met.K.Equivalent.lawful rec slots c.requires.size c.args.t n c.requires.inside c.seat-n.ensures.value a is so g.C.Condition.verdict g.C.Condition.after c.args.condition.now x a' c.remove_if.new.condition remove.Success done;
-    }
-
-pub returns-in-Retired : goal.returns-in-Retired
-returns-in-Retired g c =
-    let O = g.K.Equivalent.order in
-    let rec = c.args.self in
-    let slots = c.args.slots.now in
-    let n = c.seat-n.result in
     let x = g.Q.Equivalent.spells c.args.key.now in
-    let d = c.index-leaves-n.result in
-    let a = get_or rec.leaves n d in
-    let is = state_read rec.leaves n d (omega (arith, c.seat-n.ensures.inside, (sound_out rec.sound).table)) in
-    let e = c.in-Retired.ensures in
-    let a' = c.remove_if.new.self in
-    let done = subst (λ zs. Sorted O (state_of a).ranks zs → Removed O g.C.Condition.verdict g.C.Condition.after a c.args.condition.now x zs a' c.remove_if.new.condition remove.Retired) c.part.ensures e.removed in
-    let p = c.with_leaves-in-Retired.ensures in
+    let c₀ = c.args.condition.now in
+    let c' = c.remove_if.new.condition in
+    let r = c.remove_if.result in
+    let e = c.remove_if.ensures in
+    let does = subst (λ zs. Sorted O (state_of a).ranks zs → Removed O g.C.Condition.verdict g.C.Condition.after a c₀ x zs a' c' r) c.part.ensures.part e.removed in
     record {
-      unchanged = λ no. absurd (no refl);
-      struck = λ so. last_at O g.met.K.Equivalent.lawful rec slots c.requires.size c.args.t n c.requires.inside c.seat-n.ensures.value a is so g.C.Condition.verdict g.C.Condition.after c.args.condition.now x a' c.remove_if.new.condition c.with_leaves-in-Retired.result (record { children = p.children; seats = p.seats; leaves = p.leaves; gone = p.gone; others = λ _ _ _. refl }) done;
-      asked = λ so. asked_at O g.met.K.Equivalent.lawful rec slots c.requires.size c.args.t n c.requires.inside c.seat-n.ensures.value a is so g.C.Condition.verdict g.C.Condition.after c.args.condition.now x a' c.remove_if.new.condition remove.Retired done;
-    }
-
-pub returns-in-Fail : goal.returns-in-Fail
-returns-in-Fail g c =
-    let O = g.K.Equivalent.order in
-    let rec = c.args.self in
-    let slots = c.args.slots.now in
-    let n = c.seat-n.result in
-    let x = g.Q.Equivalent.spells c.args.key.now in
-    let d = c.index-leaves-n.result in
-    let a = get_or rec.leaves n d in
-    let is = state_read rec.leaves n d (omega (arith, c.seat-n.ensures.inside, (sound_out rec.sound).table)) in
-    let e = c.in-Fail.ensures in
-    let a' = c.remove_if.new.self in
-    let done = subst (λ zs. Sorted O (state_of a).ranks zs → Removed O g.C.Condition.verdict g.C.Condition.after a c.args.condition.now x zs a' c.remove_if.new.condition remove.Fail) c.part.ensures e.removed in
-    record {
-      unchanged = λ _. refl;
-      struck = λ so. spared_at O g.met.K.Equivalent.lawful rec slots c.requires.size c.args.t n c.requires.inside c.seat-n.ensures.value a is so g.C.Condition.verdict g.C.Condition.after c.args.condition.now x a' c.remove_if.new.condition rec done;
-      asked = λ so. asked_at O g.met.K.Equivalent.lawful rec slots c.requires.size c.args.t n c.requires.inside c.seat-n.ensures.value a is so g.C.Condition.verdict g.C.Condition.after c.args.condition.now x a' c.remove_if.new.condition remove.Fail done;
-    }
-
-pub returns-in-Frozen : goal.returns-in-Frozen
-returns-in-Frozen g c =
-    let O = g.K.Equivalent.order in
-    let rec = c.args.self in
-    let slots = c.args.slots.now in
-    let n = c.seat-n.result in
-    let x = g.Q.Equivalent.spells c.args.key.now in
-    let d = c.index-leaves-n.result in
-    let a = get_or rec.leaves n d in
-    let is = state_read rec.leaves n d (omega (arith, c.seat-n.ensures.inside, (sound_out rec.sound).table)) in
-    let e = c.in-Frozen.ensures in
-    let a' = c.remove_if.new.self in
-    let done = subst (λ zs. Sorted O (state_of a).ranks zs → Removed O g.C.Condition.verdict g.C.Condition.after a c.args.condition.now x zs a' c.remove_if.new.condition remove.Frozen) c.part.ensures e.removed in
-    record {
-      unchanged = λ _. refl;
-      struck = λ so. never_frozen O g.met.K.Equivalent.lawful rec slots c.requires.size c.args.t n c.requires.inside c.seat-n.ensures.value a is so g.C.Condition.verdict g.C.Condition.after c.args.condition.now x a' c.remove_if.new.condition done;
-      asked = λ so. asked_at O g.met.K.Equivalent.lawful rec slots c.requires.size c.args.t n c.requires.inside c.seat-n.ensures.value a is so g.C.Condition.verdict g.C.Condition.after c.args.condition.now x a' c.remove_if.new.condition remove.Frozen done;
+      only = only_put rec c.args.t seat slots a' _ slots (λ _ _ _. refl);
+      refused = e.refused;
+      unchanged = on_err_weaker r (λ u. leaf_back rec seat.number seat.past a' _ (array_of a' a u)) e.unchanged;
+      off = IfOk-weaker r _ _ (λ o. at_place rec c.args.t seat a' (λ v w. Struck v w o)) e.struck;
+      struck = λ so. struck_at rec c.args.t seat slots O g.met.K.Equivalent.lawful c.requires.size so g.C.Condition.verdict g.C.Condition.after c₀ x a' c' r does _;
+      asked = λ so. asked_at rec c.args.t seat slots O g.met.K.Equivalent.lawful c.requires.size so g.C.Condition.verdict g.C.Condition.after c₀ x a' c' r does;
     }

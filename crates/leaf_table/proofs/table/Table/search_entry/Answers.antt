@@ -1,20 +1,13 @@
-use Rattle.std.proofs.Common.{length, get_or, sym, ap, ◌∙◌, arith}
+use Rattle.std.proofs.Common.{get_or, sym, ap, ◌∙◌, arith}
 use Rattle.lists.specs.Leaves.{lookup, lives}
 use Rattle.leaf_table.specs.Records.{state_no}
-use Rattle.leaf_table.specs.States.{part}
-use Rattle.leaf_table.proofs.Parts.{length_part}
+use Rattle.leaf_table.specs.States.{part, Arranged}
 use Rattle.leaf_table.proofs.Sounds.{sound_out, state_read}
-use Rattle.leaf_table.proofs.States.{found_leaf, found_gone, found_state}
+use Rattle.leaf_table.proofs.States.{found_leaf, found_state}
 use Rattle.leaf_table.proofs.table.Table.search_entry.Goals as goal
 
-pub returns-then-self : goal.returns-then-self
-returns-then-self g c k = found_gone g.K.Equivalent.order _ c.args.self.now c.args.slots.now c.if-self.true
-
-pub search_entry-requires : goal.search_entry-requires
-search_entry-requires g c = ap length c.part.ensures ∙ length_part c.seat-n.result c.args.slots.now c.requires (omega (arith, c.seat-n.ensures.inside))
-
 pub returns : goal.returns
-returns g c k =
+returns g c =
     let O = g.K.Equivalent.order in
     let x = g.Q.Equivalent.spells c.args.key.now in
     let rec = c.args.self.now in
@@ -23,10 +16,11 @@ returns g c k =
     let h = c.seat-n.ensures.inside in
     let at = c.seat-n.ensures.value in
     let d = c.index-self-n.result in
-    found_state O (O.place x) rec slots _ c.if-self.false (
+    let entry = λ (k : Arranged O rec slots).
     found_leaf O g.met.K.Equivalent.lawful x rec slots k c.target.result c.target.ensures.inside (get_or rec.leaves n d)
     (state_read rec.leaves n d (omega (arith, (sound_out rec.sound).table)) ∙ ap (state_no rec.leaves) at)
-    c.part.result.now (c.part.ensures ∙ ap (λ m. part m slots) at)
-    (ap length c.part.ensures ∙ length_part n slots c.requires (omega (arith, h)))
+    c.part.result.now (c.part.ensures.part ∙ ap (λ m. part m slots) at)
+    c.part.ensures.long
     c.search_entry.result c.search_entry.ensures
-    ∙ sym (ap (λ l. lookup O (O.place x) (lives l)) (c.target.ensures.leaf k)))
+    ∙ sym (ap (λ l. lookup O (O.place x) (lives l)) (c.target.ensures.leaf k)) in
+    record { answer = λ k. found_state O (O.place x) rec slots _ c.if-self.false (entry k); entry = λ k _. entry k }

@@ -1,6 +1,0 @@
-use Rattle.std.proofs.Common.{refl}
-use Rattle.leaf_node.proofs.Sounds.{sound_out}
-use Rattle.leaf_node.proofs.table.Table.seat.Goals as goal
-
-pub returns : goal.returns
-returns c = record { value = refl; inside = (sound_out c.args.self.now.sound).seat c.args.t c.requires }
