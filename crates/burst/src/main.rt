@@ -2,18 +2,18 @@
 // (event 1, channel 2), in tenths of a kilometre per hour.
 #![tactic(auto)]
 
-ghost use Rattle.std.specs.Prelude.{◌≡◌, length};
 ghost use Rattle.std.specs.Iterator.{IsFinite};
 
 use keys::condition::NotAvailable;
 use keys::refusal::number_of;
 use keys::sample::Sample;
-use keys::value::Reading;
+use keys::value::{NOT_AVAILABLE, Reading};
 use leaf::array::Array;
 use leaf::data_block::Slot;
+use ranks::dimension::LEN;
 use std::io;
 
-// Time in ms, reading and status, in the order in which they came; status 255 says that the reading is not available.
+// Time in ms, reading and status, in the order in which they came; one status says that the reading is not available.
 const BURST: [(i16, i32, u8); 12] = [
     (0, 0, 0),
     (20, -31, 0),
@@ -21,7 +21,7 @@ const BURST: [(i16, i32, u8); 12] = [
     (40, -118, 0),
     (30, -74, 0),
     (60, -203, 0),
-    (50, 0, 255),
+    (50, 0, NOT_AVAILABLE),
     (70, -236, 0),
     (100, -271, 0),
     (90, -268, 0),
@@ -48,10 +48,8 @@ fn entry(time: i16, value: i32, status: u8) -> Slot<Sample, Reading> {
 fn file_all(
     rt: &impl Print,
     array: &mut Array,
-    slots: &mut [Slot<Sample, Reading>],
-) -> io::Result<()>
-    requires { length slots.old ≡ 15 }
-{
+    slots: &mut [Slot<Sample, Reading>; LEN],
+) -> io::Result<()> {
     for (time, value, status) in BURST {
         let new = entry(time, value, status);
         let answer = array.insert(slots, new, false);
@@ -64,10 +62,8 @@ fn file_all(
 fn put_right(
     rt: &impl Print,
     array: &mut Array,
-    slots: &mut [Slot<Sample, Reading>],
-) -> io::Result<()>
-    requires { length slots.old ≡ 15 }
-{
+    slots: &mut [Slot<Sample, Reading>; LEN],
+) -> io::Result<()> {
     let again = entry(30, -75, 0);
     let answer = array.insert(slots, again, true);
     println!(rt; "replace 30 {}: {}", again.val, number_of(&answer))?;
@@ -101,7 +97,7 @@ fn print_entries<W: Iterator<Item = u8>>(
 
 fn main(rt: HostRuntime) -> io::Result<()> {
     let mut array = Array::new();
-    let mut slots = [entry(0, 0, 0); 15];
+    let mut slots = [entry(0, 0, 0); LEN];
     file_all(&rt, &mut array, &mut slots)?;
     put_right(&rt, &mut array, &mut slots)?;
     print_entries(&rt, "forward", &slots, array.iter())?;

@@ -1,4 +1,4 @@
--- What an order says of two places, and that the orders of specs/Orders are orders.
+-- What an order says of two places, that the orders of specs/Orders are orders, and that the words for samples and pages fit theirs.
 use Rattle.std.specs.Prelude.{◌≡◌, ◌<◌, true, ◌⊎◌, refl}
 use Rattle.std.proofs.Common.{ap, inl, inr, arith}
 use Rattle.std.proofs.lemmas.Int.{ints}

@@ -1,6 +1,6 @@
 // Ported from `equivalent.rs` of scc 3.8.8 (Apache-2.0) and changed: each trait states the order that its answers come from, with its
-// law, and there are no blanket impls for `Eq` and `Ord`, so each key and each query has impls of its own: blanket ones would need a third
-// trait for the order of a key, which two kinds of key give more plainly so.
+// law, and there are no blanket impls for `Eq` and `Ord`, so each key and each query has impls of its own: blanket ones would take
+// order and law from a further trait of the keys, which would say again what `Equivalent` says.
 ghost use Rattle.std.specs.Prelude.{◌≡◌};
 ghost use Rattle.keys.specs.Orders.{Order, Ordered, is_before, is_same, stands, answered, Agree, Own};
 

@@ -1,10 +1,10 @@
 // Pages, by address.
-ghost use Rattle.std.specs.Prelude.{◌≡◌, ◌<◌, Decides, refl};
+ghost use Rattle.std.specs.Prelude.{◌≡◌, ◌<◌, refl};
 ghost use Rattle.keys.specs.Pages.{pages, page_of};
 ghost use Rattle.keys.specs.Orders.{numbers};
 ghost use Rattle.keys.specs.Places.{numbers_ordered, by_ordered, lower_said};
 
-use crate::equivalent::{Comparable, Equivalent, is_before};
+use crate::equivalent::{Comparable, Equivalent};
 use crate::stored::Spelled;
 use crate::worded::Worded;
 use std::cmp::Ordering;
@@ -14,6 +14,7 @@ pub struct Page {
     pub address: u32,
 }
 
+// As for samples, and in impls of its own, since the order and its law are its own.
 impl Equivalent<Page> for Page {
     ghost order = { pages };
 

@@ -1,10 +1,10 @@
 // Samples, by event, then signed time, then channel.
-ghost use Rattle.std.specs.Prelude.{◌≡◌, Decides, refl};
+ghost use Rattle.std.specs.Prelude.{◌≡◌, refl};
 ghost use Rattle.keys.specs.Samples.{samples, sample_of, Sooner};
 ghost use Rattle.keys.specs.Orders.{numbers, integers};
 ghost use Rattle.keys.specs.Places.{numbers_ordered, integers_ordered, by_ordered, then_ordered, sooner_said};
 
-use crate::equivalent::{Comparable, Equivalent, is_before};
+use crate::equivalent::{Comparable, Equivalent};
 use crate::stored::Spelled;
 use crate::worded::Worded;
 use std::cmp::Ordering;
@@ -17,6 +17,7 @@ pub struct Sample {
     pub channel: u8,
 }
 
+// These two impls are written for each key, since each gives its own order with its law.
 impl Equivalent<Sample> for Sample {
     ghost order = { samples };
 

@@ -37,6 +37,7 @@ pub struct Stored<'a> {
     pub bytes: &'a [u8; 4],
 }
 
+// It answers as that key does, so there is nothing to derive.
 impl<K: Comparable<K> + Spelled + Copy> Equivalent<K> for Stored<'_> {
     ghost order = { K.Equivalent.order };
 

@@ -11,7 +11,8 @@ pub trait HasStatus {
         ensures { result ≡ code self.now };
 }
 
-// The status of a value that is not available.
+// The status of a value that is not available. A status is the recorder's own byte, and the others are printed as they came, so it stays a
+// number and is no `Option` around the value.
 pub const NOT_AVAILABLE: u8 = 255;
 
 // A number with its status.

@@ -13,12 +13,14 @@ pub trait Worded: Comparable<Self> + Sized {
     ghost said: { (x y : Self) → InWords (stands Self.Equivalent.order x y) (Before x y) (Alike x y) };
 }
 
+// One key is before another, in its own words.
 pub fn precedes<K: Worded>(one: &K, other: &K) -> bool
     ensures { Decides result (K.Worded.Before one.now other.now) }
 {
     is_before(one, other)
 }
 
+// Two keys have one place, in their own words.
 pub fn is_alike<K: Worded>(one: &K, other: &K) -> bool
     ensures { Decides result (K.Worded.Alike one.now other.now) }
 {

@@ -99,9 +99,12 @@ refused O a slots new upsert a' e answer same so = record { answer = answer; sta
 
 -- ---- an array h that holds the next use of a
 
-module _ (a h : Array) (e : state_of h ≡ used (state_of a)) (room : ones a.bitmap < 15) where
+module _ (a h : Array) (e : state_of h ≡ used (state_of a)) where
   abbrev uses : ℕ
   uses = ones a.bitmap
+
+  pub held_room : uses < 15
+  held_room = omega (arith, ap (λ s. s.uses) e, (whole_out h.whole).few)
 
   pub held_ranks : ranks_of h.metadata ≡ ranks_of a.metadata
   held_ranks = ap (λ s. s.ranks) e
@@ -115,7 +118,7 @@ module _ (a h : Array) (e : state_of h ≡ used (state_of a)) (room : ones a.bit
   pub held_spare : Spare (state_of h)
   held_spare =
       let u : uses + 1 - 1 ≡ uses = omega arith in
-      subst Spare (sym e) (ap (λ b. get_or (ranks_of a.metadata) (slot_pos b) 0) u ∙ (whole_out a.whole).unused uses (omega arith) room, λ p. omega (arith, (whole_out a.whole).bound p))
+      subst Spare (sym e) (ap (λ b. get_or (ranks_of a.metadata) (slot_pos b) 0) u ∙ (whole_out a.whole).unused uses (omega arith) held_room, λ p. omega (arith, (whole_out a.whole).bound p))
 
   pub held_back : given (state_of h) ≡ state_of a
   held_back =
@@ -133,7 +136,7 @@ module _ (a h : Array) (e : state_of h ≡ used (state_of a)) (room : ones a.bit
         let rs = ranks_of h.metadata in
         whole_took w uses word (taken rs spot (slot_pos uses)) (ap (λ s. s.uses) e) (ap is_retired (held_flags ∙ z))
         (subst (λ p. Reads word (taken rs spot p) (flags_of h.metadata)) at r)
-        (took rs spot uses (slot_pos uses) (length_digits 15 h.metadata) (slot_lt uses room) i held_bound w.apart)
+        (took rs spot uses (slot_pos uses) (length_digits 15 h.metadata) (slot_lt uses held_room) i held_bound w.apart)
 
     pub held_inside : Inside (ranks_of a.metadata) spot
     held_inside = subst (λ rs. Inside rs spot) held_ranks i
@@ -142,7 +145,7 @@ module _ (a h : Array) (e : state_of h ≡ used (state_of a)) (room : ones a.bit
     held_state = made_same (r.ranks ∙ ap₂ (λ rs p. taken rs spot p) held_ranks at) (ap (λ s. s.uses) e) (r.flags ∙ held_flags)
 
     pub held_filled : (s : State) → s ≡ made (ranks_of word) (ones h.bitmap) (flags_of word) → Filled (state_of a) s
-    held_filled s is = subst (Filled (state_of a)) (sym (is ∙ held_state)) (record { free = z; flags = z; uses = refl; live = taken_live (ranks_of a.metadata) spot (slot_pos uses) (length_digits 15 a.metadata) (slot_lt uses room) held_inside })
+    held_filled s is = subst (Filled (state_of a)) (sym (is ∙ held_state)) (record { free = z; flags = z; uses = refl; live = taken_live (ranks_of a.metadata) spot (slot_pos uses) (length_digits 15 a.metadata) (slot_lt uses held_room) held_inside })
 
 -- ---- filing without a look at the other slots
 

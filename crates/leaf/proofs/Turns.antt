@@ -1,13 +1,9 @@
 -- The pass over the slots of a leaf that looks for a key, over ranks and sides alone.
 --     Seen rs ss low high pos     what is known after the slots below pos: ranks up to low are before the key, those from high on after it
 --     Tame rs low high next       what holds whatever the slots hold
-use Rattle.std.proofs.Common.{◌≡◌, ℕ, ◌+◌, ◌*◌, ◌/◌, ◌%◌, ◌^◌, ◌<◌, ◌≤◌, ◌⊎◌, List, get_or, Some, None, Option, MatchOption, Err, sym, refl, ap, ◌∙◌, subst, inl, inr, ⊎_elim, arith, below_more, pow_mono}
-use Rattle.std.proofs.Math.Nat.{lt-div-mul-add, div-eq_of_lt}
-use Rattle.std.proofs.lemmas.Nat.{pow_pos}
-use Rattle.std.proofs.lemmas.List.{get_or_past}
+use Rattle.std.proofs.Common.{◌≡◌, ℕ, ◌+◌, ◌<◌, ◌≤◌, ◌⊎◌, List, get_or, Some, None, Option, MatchOption, Err, sym, refl, ap, ◌∙◌, subst, inl, inr, ⊎_elim, arith, below_more}
 use Rattle.std.proofs.lemmas.Bool.{cases_eq, cases_lt}
-use Rattle.ranks.specs.Words.{ranks_of}
-use Rattle.ranks.proofs.Words.{length_digits, get_or_digits}
+use Rattle.ranks.proofs.Words.{NoneLeft}
 use Rattle.leaf.specs.Seeks.{Level, Inside, Parted}
 use Rattle.leaf.proofs.Sides.{Arranged}
 
@@ -59,24 +55,6 @@ module _ {rs ss : List ℕ} {low high pos : ℕ} (in_leaf : pos < 15) (o : Arran
   }
 
 -- ---- the end: no rank is left from slot pos on
-
-shifted_out : (w i j : ℕ) → w / 2 ^ i ≡ 0 → i ≤ j → w / 2 ^ j ≡ 0
-shifted_out w i j z h =
-    let p : 2 ^ i ≤ 2 ^ j = pow_mono h in
-    let l = lt-div-mul-add {a = w} {b = 2 ^ i} (pow_pos i) in
-    div-eq_of_lt (omega (arith, ap (λ x. x * 2 ^ i) z))
-
-abbrev pub NoneLeft : List ℕ → ℕ → Type 0
-NoneLeft rs pos = (q : ℕ) → pos ≤ q → get_or rs q 0 ≡ 0
-
-pub none_past : (w pos : ℕ) → 15 ≤ pos → NoneLeft (ranks_of w) pos
-none_past w pos n q h = get_or_past (ranks_of w) q 0 (omega (arith, length_digits 15 w))
-
-pub none_above : (w pos : ℕ) → w / 2 ^ (4 * pos) ≡ 0 → NoneLeft (ranks_of w) pos
-none_above w pos z q h = ⊎_elim
-    (λ l. get_or_digits 15 w q l ∙ ap (λ x. x % 16) (shifted_out w (4 * pos) (4 * q) z (omega arith)))
-    (λ l. none_past w q l q (omega arith))
-    (cases_lt q 15)
 
 seen_all : {rs ss : List ℕ} {low high pos : ℕ} → NoneLeft rs pos → Seen rs ss low high pos → (q : ℕ) → low < get_or rs q 0 → high ≤ get_or rs q 0
 seen_all {rs} {ss} {low} {high} {pos} n s q l = ⊎_elim (λ h. s.known q h l) (λ h. absurd (omega (arith, n q h))) (cases_lt q pos)

@@ -50,7 +50,7 @@ impl OnExit for Unfreeze {
 // Holds an array, and takes the step E at its end.
 pub struct ExitGuard<'a, E: OnExit> {
     pub array: &'a mut Array,
-    step: PhantomData<E>,
+    pub step: PhantomData<E>,
 }
 
 impl<'a, E: OnExit> Drop for ExitGuard<'a, E> {

@@ -24,7 +24,7 @@ use ranks::dimension::{FLAGS, LEN, RETIRED, cleared, is_frozen, is_retired, slot
 use ranks::{boundary, dimension};
 
 // Slots are lent at each call, and may hold anything: so each call that looks at them asks for itself that they are fifteen, and says
-// what it does where ranks order their keys.
+// what it does where ranks order their keys. Refusals are one enum with one number each, so a clause says which of them a call gives.
 impl Array {
     pub fn new() -> Array
         ensures { state_of result ≡ fresh }
@@ -47,6 +47,7 @@ impl Array {
     pub fn uses(&self) -> usize
         ensures { result ≡ (state_of self.now).uses }
     {
+        // There is no `From<u32>` for `usize`.
         self.bitmap.count_ones() as usize
     }
 
@@ -154,7 +155,7 @@ impl Array {
         }
     }
 
-    // Files `entry` at the next use. Where `upsert` is set, a live slot at the place of its key hands its rank over.
+    // Files `entry` at the next use. Where the flag `upsert` is set, which stands for `UPSERT`, a live slot at the place of its key hands its rank over.
     pub fn insert<K: Comparable<K> + Copy, V: Copy>(
         &mut self,
         slots: &mut [Slot<K, V>],
@@ -186,7 +187,7 @@ impl Array {
         Ok(())
     }
 
-    // The next use, and the word once `key` takes it.
+    // The next use, and the word once `key` takes it: a pair, as the original answers it.
     pub fn insert_dry<K: Equivalent<K>, V, Q: Comparable<K>>(
         &self,
         slots: &[Slot<K, V>],
@@ -207,7 +208,7 @@ impl Array {
     }
 
     // Files `entry` at the next use, `bitmap_pos`, with no look at the other slots: with the word that is given, or else with the
-    // greatest rank. Answers the slot.
+    // greatest rank. Answers the slot. The use and the word are those of `insert_dry`, apart as in the original.
     pub fn insert_unchecked<K: Copy, V: Copy>(
         &mut self,
         slots: &mut [Slot<K, V>],
@@ -225,6 +226,7 @@ impl Array {
     {
         let pos = slot_pos(bitmap_pos);
         slots[pos] = entry;
+        // The cast loses nothing, which is proved.
         let word = metadata.unwrap_or_else(|| with_rank(
             self.metadata,
             pos,

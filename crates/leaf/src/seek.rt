@@ -2,6 +2,7 @@
 //
 // Ported from the passes of `insert`, `insert_dry`, `min_greater_equal` and `search_slot` in `tree_index/leaf.rs` of scc 3.8.8
 // (Apache-2.0), and changed: one pass serves them all, and a second one raises the ranks.
+// Words, slots and ranks are plain numbers, as in `ranks`; slots are lent, and may hold anything.
 ghost use Rattle.std.specs.Prelude.{◌≡◌, ℕ, ◌<◌, length, slice_index};
 ghost use Rattle.ranks.specs.Dimensions.{leaf_length};
 ghost use Rattle.ranks.specs.Words.{ranks_of, flags_of, Reads};
@@ -17,7 +18,7 @@ use std::cmp::Ordering;
 // Where a key that has no live slot lies among the live ranks.
 #[derive(Clone, Copy)]
 pub(crate) struct Gap {
-    // the greatest rank before the key, 0 if there is none
+    // the greatest rank before the key; as in the word, 0 is no rank
     pub(crate) low: u8,
     // the slot of the least rank after it
     pub(crate) next: Option<usize>,

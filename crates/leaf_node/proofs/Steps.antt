@@ -19,7 +19,7 @@ use Rattle.leaf_lists.specs.Stands.{leaf_in}
 use Rattle.ranked_leaves.specs.Ranked.{plain}
 use Rattle.ranked_leaves.proofs.Ranked.{plain_in, plain_taken}
 use Rattle.leaf_table.specs.Records.{state_no}
-use Rattle.leaf_table.specs.States.{part, pick, row_on, state_at, slots_at, leaf_at, ranked_at, row_of, node_of, Arranged, Aimed}
+use Rattle.leaf_table.specs.States.{part, pick, row_on, state_at, slots_at, leaf_at, ranked_at, row_of, node_of, TableSorted, Aimed}
 use Rattle.leaf_table.specs.Changes.{roomy, OnlyLeaf, Elsewhere, FiledAt}
 use Rattle.leaf_table.specs.Filings.{call}
 use Rattle.leaf_table.specs.declared.table.Table.{Table}
@@ -56,8 +56,8 @@ module _ {K V : Type 0} (O : Order K) (e : Entry K V) (r : Row K (Leaf K V)) (us
 -- ---- a record with the leaf of one place changed
 
 module _ {K V : Type 0} (O : Order K) (rec : Table) (slots : List (Slot K V)) (kept : Kept O rec slots) where
-  pub arranged : Arranged O rec slots
-  arranged = record { leaves = λ t h. kept.leaves (get_or rec.seats t 0) ((sound_out rec.sound).seat t (omega arith)); bounds = kept.bounds }
+  pub table_sorted : TableSorted O rec slots
+  table_sorted = record { leaves = λ t h. kept.leaves (get_or rec.seats t 0) ((sound_out rec.sound).seat t (omega arith)); bounds = kept.bounds }
 
   pub kept_only : (t : ℕ) → t ≤ 15 → (rec' : Table) (slots' : List (Slot K V)) → OnlyLeaf rec slots (get_or rec.seats t 0) rec' slots' → Sorted O (state_at rec' t).ranks (slots_at rec' slots' t) → Kept O rec' slots'
   kept_only t ht rec' slots' o so = record {

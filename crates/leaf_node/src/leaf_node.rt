@@ -21,11 +21,13 @@ use leaf::data_block::Slot;
 use leaf::result::RemoveOutcome;
 use leaf_table::table::Table;
 
+// The node over a table, whose steps are in the leaf of one place.
 #[derive(Clone, Copy)]
 pub struct LeafNode {
     pub table: Table,
 }
 
+// Slots are lent at each call, and may hold anything, and a clause says which refusals a call gives: as in the table.
 impl LeafNode {
     // A node with nothing in it, whatever the slots hold.
     pub fn new<K: Equivalent<K>, V>() -> LeafNode

@@ -19,7 +19,7 @@ use Rattle.leaf.proofs.Wholes.{whole_out}
 use Rattle.leaf_lists.specs.Stands.{leaf_in, found_in}
 use Rattle.leaf_lists.proofs.Bridge.{bridge}
 use Rattle.leaf_table.specs.Records.{state_no}
-use Rattle.leaf_table.specs.States.{part, state_at, leaf_at, slots_at, kid, row_of, node_of, Arranged, Kept, Aimed}
+use Rattle.leaf_table.specs.States.{part, state_at, leaf_at, slots_at, kid, row_of, node_of, TableSorted, Kept, Aimed}
 use Rattle.leaf_table.specs.declared.table.Table.{Table}
 use Rattle.leaf_table.proofs.Parts.{length_part}
 use Rattle.leaf_table.proofs.Rows.{pick_cases, row_end, target_is}
@@ -51,7 +51,7 @@ module _ {K V : Type 0} (rec : Table) (slots : List (Slot K V)) (stands : rec.go
 
   pub kept_fresh : (O : Order K) → Kept O rec slots
   kept_fresh O = record {
-    arranged = record { leaves = λ t h. sorted_none O _ (slots_at rec slots t) (each (get_or rec.seats t 0)); bounds = sorted_none O _ (part 17 slots) bare };
+    table_sorted = record { leaves = λ t h. sorted_none O _ (slots_at rec slots t) (each (get_or rec.seats t 0)); bounds = sorted_none O _ (part 17 slots) bare };
     reached = ([], sym node_fresh);
   }
 
@@ -68,7 +68,7 @@ module _ {K V : Type 0} (O : Order K) (x : K) (rec : Table) (slots bs : List (Sl
       by None l e = (omega arith, λ h. absurd (omega arith))
       by (Some p) l e = (omega (arith, l.0), λ _. subst (λ i. 0 < get_or rs i 0) (sym e) l.1)
 
-  aim_of : (Sorted O rs bs → LeastFrom rs (sides O x bs) o) → Arranged O rec slots → Aimed rs (sides O x (part 17 slots)) t
+  aim_of : (Sorted O rs bs → LeastFrom rs (sides O x bs) o) → TableSorted O rec slots → Aimed rs (sides O x (part 17 slots)) t
   aim_of f k = subst (λ xs. Aimed rs (sides O x xs) t) are (by o is lives_on (f (subst (Sorted O rs) (sym are) k.bounds)))
     where
       by : (o : Option ℕ) → t ≡ unwrap_or o 15 → Live rs o → LeastFrom rs (sides O x bs) o → Aimed rs (sides O x bs) t
@@ -78,8 +78,8 @@ module _ {K V : Type 0} (O : Order K) (x : K) (rec : Table) (slots bs : List (Sl
   pub record Found : Type 0 where
     pub inside : t ≤ 15
     pub live : t < 15 → 0 < get_or rs t 0
-    pub aimed : Arranged O rec slots → Aimed rs (sides O x (part 17 slots)) t
-    pub at : Arranged O rec slots → (target O (O.place x) (row_of rec slots) ≡ leaf_at rec slots t) × (at_edge O (O.place x) (row_of rec slots) ≡ eqb t 15)
+    pub aimed : TableSorted O rec slots → Aimed rs (sides O x (part 17 slots)) t
+    pub at : TableSorted O rec slots → (target O (O.place x) (row_of rec slots) ≡ leaf_at rec slots t) × (at_edge O (O.place x) (row_of rec slots) ≡ eqb t 15)
 
   pub found : Ordered O → length slots ≡ 270 → (Sorted O rs bs → LeastFrom rs (sides O x bs) o) → Found
   unfolding row_of
@@ -95,9 +95,9 @@ module _ {K V : Type 0} (O : Order K) (x : K) (rec : Table) (slots bs : List (Sl
 pub node_stands : {K V : Type 0} (rec : Table) (slots : List (Slot K V)) → rec.gone ≡ false → node_of rec slots ≡ sheet (row_of rec slots) (state_of rec.children).uses (is_retired (state_of rec.children).flags)
 node_stands rec slots g = cond-false _ _ _ g
 
-module _ {K V : Type 0} (O : Order K) (L : Ordered O) (x : K) (rec : Table) (slots : List (Slot K V)) (arranged : Arranged O rec slots) (t : ℕ) (h : t ≤ 15) (a : Array) (is : state_of a ≡ state_at rec t) (bs : List (Slot K V)) (are : bs ≡ slots_at rec slots t) (len : length bs ≡ 15) where
+module _ {K V : Type 0} (O : Order K) (L : Ordered O) (x : K) (rec : Table) (slots : List (Slot K V)) (table_sorted : TableSorted O rec slots) (t : ℕ) (h : t ≤ 15) (a : Array) (is : state_of a ≡ state_at rec t) (bs : List (Slot K V)) (are : bs ≡ slots_at rec slots t) (len : length bs ≡ 15) where
   sorted_leaf : Sorted O (state_of a).ranks bs
-  sorted_leaf = subst (λ s. Sorted O s.ranks bs) (sym is) (subst (Sorted O (state_at rec t).ranks) (sym are) (arranged.leaves t h))
+  sorted_leaf = subst (λ s. Sorted O s.ranks bs) (sym is) (subst (Sorted O (state_at rec t).ranks) (sym are) (table_sorted.leaves t h))
 
   pub found_leaf : (r : Option (Slot K V)) → (Sorted O (state_of a).ranks bs → r ≡ entry_at (holder (state_of a).ranks (sides O x bs)) bs) → found_in r ≡ lookup O (O.place x) (lives (leaf_at rec slots t))
   found_leaf r f =

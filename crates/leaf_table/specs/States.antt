@@ -5,7 +5,7 @@
 --     leaf_at rec slots t      the leaf of place t: 0 to 14 are child places, 15 is the unbounded leaf, 16 the spare
 --     ranked_at rec slots t    the same with its ranks
 --     node_of rec slots        the node
---     Arranged                 in the leaf of every place, and among the bounds, ranks order keys
+--     TableSorted              in the leaf of every place, and among the bounds, ranks order keys
 --     Kept                     the same, and the node is one that calls make
 --     Aimed rs ss t            place t is that of the child of the least rank that is not before a key, or 15 if there is none
 use Rattle.std.specs.Prelude.{◌≡◌, ℕ, zero, suc, ◌+◌, ◌-◌, ◌*◌, ◌<◌, ◌≤◌, cond, List, [], ◌∷◌, take, drop, Some, None, Option, ◌==◌, slice_index}
@@ -84,12 +84,12 @@ abbrev pub Reached : {K V : Type 0} (O : Order K) → Node K V → Type 0
 Reached {K} {V} O n = (cs : List (Call K V O.Place)) × ((state_after O cs).node ≡ n)
 
 module _ {K V : Type 0} (O : Order K) (rec : Table) (slots : List (Slot K V)) where
-  pub record Arranged : Type 0 where
+  pub record TableSorted : Type 0 where
     pub leaves : (t : ℕ) → t ≤ 15 → Sorted O (state_at rec t).ranks (slots_at rec slots t)
     pub bounds : Sorted O (state_of rec.children).ranks (part 17 slots)
 
   pub record Kept : Type 0 where
-    pub arranged : Arranged
+    pub table_sorted : TableSorted
     pub reached : Reached O (node_of rec slots)
 
 pub record Aimed (rs ss : List ℕ) (t : ℕ) : Type 0 where

@@ -13,7 +13,7 @@ ghost use Rattle.leaf.specs.Slots.{sides, Sorted};
 ghost use Rattle.leaf.specs.declared.data_block.Slot as slot;
 ghost use Rattle.leaf_lists.specs.Stands.{entry_of, found_in};
 ghost use Rattle.leaf_table.specs.Records.{state_no};
-ghost use Rattle.leaf_table.specs.States.{node_length, part, state_at, slots_at, leaf_at, row_of, node_of, Arranged, Kept, Aimed};
+ghost use Rattle.leaf_table.specs.States.{node_length, part, state_at, slots_at, leaf_at, row_of, node_of, TableSorted, Kept, Aimed};
 ghost use Rattle.leaf_table.specs.Changes.{OnlyLeaf, FiledAt, StruckAt, asked};
 
 use crate::table::{LEAVES, Table};
@@ -25,7 +25,9 @@ use leaf::data_block::Slot;
 use leaf::result::RemoveOutcome;
 use ranks::dimension::LEN;
 
-// A place is an index of the tables, so the kinds of place are numbers with names, and no enum that each step would turn into its index.
+// Slots are lent at each call, and may hold anything: so each function asks for itself that they are 270, and says what it does where ranks
+// order their keys. Places, leaves and parts are indices: plain numbers, their kinds with names, and no type or enum that each step would turn
+// into its index. Refusals are one enum with one number each, so a clause says which of them a call gives.
 
 // The place of the unbounded leaf.
 pub const UNBOUNDED: usize = 15;
@@ -64,8 +66,6 @@ pub fn insert_in<K: Comparable<K> + Copy, V: Copy>(
     array.insert(&mut slots[LEN * n..LEN * n + LEN], entry, upsert)
 }
 
-// Slots are lent at each call, and may hold anything: so each call asks for itself that they are 270, and says what it does where ranks
-// order their keys.
 impl Table {
     // A node with nothing in it, whatever the slots hold.
     pub fn new<K: Equivalent<K>, V>() -> Table
@@ -98,9 +98,9 @@ impl Table {
         requires { length slots.now ≡ node_length }
         ensures inside { result ≤ 15 }
         ensures live { result < 15 → 0 < slice_index (state_of self.now.children).ranks result }
-        ensures aimed { Arranged K.Equivalent.order self.now slots.now → Aimed (state_of self.now.children).ranks (sides K.Equivalent.order (Q.Equivalent.spells key.now) (part 17 slots.now)) result }
-        ensures leaf { Arranged K.Equivalent.order self.now slots.now → rows.target K.Equivalent.order (K.Equivalent.order.place (Q.Equivalent.spells key.now)) (row_of self.now slots.now) ≡ leaf_at self.now slots.now result }
-        ensures last { Arranged K.Equivalent.order self.now slots.now → rows.at_edge K.Equivalent.order (K.Equivalent.order.place (Q.Equivalent.spells key.now)) (row_of self.now slots.now) ≡ (result == 15) }
+        ensures aimed { TableSorted K.Equivalent.order self.now slots.now → Aimed (state_of self.now.children).ranks (sides K.Equivalent.order (Q.Equivalent.spells key.now) (part 17 slots.now)) result }
+        ensures leaf { TableSorted K.Equivalent.order self.now slots.now → rows.target K.Equivalent.order (K.Equivalent.order.place (Q.Equivalent.spells key.now)) (row_of self.now slots.now) ≡ leaf_at self.now slots.now result }
+        ensures last { TableSorted K.Equivalent.order self.now slots.now → rows.at_edge K.Equivalent.order (K.Equivalent.order.place (Q.Equivalent.spells key.now)) (row_of self.now slots.now) ≡ (result == 15) }
     {
         self.children
             .min_greater_equal(part(slots, BOUNDS), key)
@@ -114,8 +114,8 @@ impl Table {
         key: &Q,
     ) -> Option<Slot<K, V>>
         requires { length slots.now ≡ node_length }
-        ensures answer { Arranged K.Equivalent.order self.now slots.now → told K.Equivalent.order (found_in result) ≡ find K.Equivalent.order (K.Equivalent.order.place (Q.Equivalent.spells key.now)) (node_of self.now slots.now) }
-        ensures entry { Arranged K.Equivalent.order self.now slots.now → self.now.gone ≡ false → found_in result ≡ held K.Equivalent.order (K.Equivalent.order.place (Q.Equivalent.spells key.now)) (row_of self.now slots.now) }
+        ensures answer { TableSorted K.Equivalent.order self.now slots.now → told K.Equivalent.order (found_in result) ≡ find K.Equivalent.order (K.Equivalent.order.place (Q.Equivalent.spells key.now)) (node_of self.now slots.now) }
+        ensures entry { TableSorted K.Equivalent.order self.now slots.now → self.now.gone ≡ false → found_in result ≡ held K.Equivalent.order (K.Equivalent.order.place (Q.Equivalent.spells key.now)) (row_of self.now slots.now) }
     {
         if self.gone {
             return None;

@@ -1,7 +1,7 @@
 // What is to become of a leaf that has no room for a key.
 //
 // Ported from `split_insert` in `tree_index/leaf_node.rs` and `distribute` in `tree_index/leaf.rs` of scc 3.8.8 (Apache-2.0), and changed: the
-// closure that decides is a function that answers a plan.
+// closure that decides is a function that answers a plan, since steps have names here.
 ghost use Rattle.std.specs.Prelude.{◌≡◌};
 ghost use Rattle.leaf.specs.Rules.{state_of};
 ghost use Rattle.leaf_table.specs.Plans.{planned, Held};

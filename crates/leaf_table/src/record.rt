@@ -7,6 +7,8 @@ ghost use Rattle.leaf_table.specs.Records.{leaf_count, state_no, Marked};
 use crate::table::{LEAVES, Table};
 use leaf::array::Array;
 
+// Leaves and places count in plain numbers, as the tables do. `Marked` is asked where an array is set, since it is a part of the table's own
+// invariant and holds of no array by itself.
 impl Table {
     // Another table of leaves.
     pub fn set_leaves(&mut self, leaves: [Array; LEAVES])

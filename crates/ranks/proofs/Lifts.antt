@@ -1,9 +1,9 @@
 -- A pass that raises the ranks above one.
-use Rattle.std.proofs.Common.{◌≡◌, ℕ, zero, suc, ◌+◌, ◌*◌, ◌^◌, ◌<◌, ◌≤◌, List, [], ◌∷◌, ◌++◌, length, set, append_assoc, append-nil, get_or, take, drop, sym, refl, ap, ◌∙◌, ap₂, arith}
-use Rattle.std.proofs.lemmas.List.{length-map, length-take-le, drop_more, drop_all, take_all, map_more, get_or_at, set_at}
+use Rattle.std.proofs.Common.{◌≡◌, ℕ, zero, suc, ◌+◌, ◌*◌, ◌^◌, ◌<◌, ◌≤◌, List, [], ◌∷◌, ◌++◌, length, set, append_assoc, get_or, take, drop, sym, refl, ap, ◌∙◌, ap₂, arith}
+use Rattle.std.proofs.lemmas.List.{length-map, length-take-le, drop_more, map_more, get_or_at, set_at}
 use Rattle.std.proofs.lemmas.Bool.Decides.{nat_tests}
 use Rattle.ranks.specs.Words.{ranks_of, flags_of, Reads, lift, lifted}
-use Rattle.ranks.proofs.Words.{length_digits, put}
+use Rattle.ranks.proofs.Words.{length_digits, put, NoneLeft}
 
 pub lift_up : (low r : ℕ) → low < r → lift low r ≡ r + 1
 lift_up low r h = grind (arith, nat_tests)
@@ -30,8 +30,10 @@ lifted_same low (r ∷ rs) h =
 abbrev pub lifting : ℕ → List ℕ → ℕ → List ℕ
 lifting low rs n = lifted low (take n rs) ++ drop n rs
 
-pub lifting_all : (low : ℕ) (rs : List ℕ) (n : ℕ) → length rs ≤ n → lifting low rs n ≡ lifted low rs
-lifting_all low rs n h = ap₂ (λ xs ys. lifted low xs ++ ys) (take_all n rs h) (drop_all n rs h) ∙ append-nil (lifted low rs)
+pub lifting_all : (low : ℕ) (rs : List ℕ) (n : ℕ) → NoneLeft rs n → lifting low rs n ≡ lifted low rs
+lifting_all low rs zero h = sym (lifted_same low rs (λ p. omega (arith, h p)))
+lifting_all low [] (suc n) h = refl
+lifting_all low (r ∷ rs) (suc n) h = ap (λ xs. lift low r ∷ xs) (lifting_all low rs n (λ q l. h (suc q) (omega arith)))
 
 -- one rank more is seen
 module _ (low : ℕ) (rs : List ℕ) (n : ℕ) (h : n < length rs) where

@@ -1,9 +1,10 @@
 -- The rank word as a list of digits: what it comes to to read, add to and clear a digit.
-use Rattle.std.proofs.Common.{◌≡◌, ℕ, zero, suc, ◌+◌, ◌*◌, ◌/◌, ◌%◌, ◌^◌, ◌<◌, ◌≤◌, ◌&&◌, eqb, List, [], ◌∷◌, length, get_or, drop, set, sym, refl, ap, ◌∙◌, subst, ap₂, ⊎_elim, mul_assoc, mul_left_comm, arith}
+use Rattle.std.proofs.Common.{◌≡◌, ℕ, zero, suc, ◌+◌, ◌*◌, ◌/◌, ◌%◌, ◌^◌, ◌<◌, ◌≤◌, ◌&&◌, eqb, List, [], ◌∷◌, length, get_or, set, sym, refl, ap, ◌∙◌, subst, ap₂, mul_assoc, mul_left_comm, ⊎_elim, pow_mono, arith}
 use Rattle.std.proofs.lemmas.Bool.Decides.{nat_tests}
-use Rattle.std.proofs.lemmas.Nat.{pow-add, shr-shr, mod-pow-add}
-use Rattle.std.proofs.lemmas.List.{drop_more, drop_all, length-set}
+use Rattle.std.proofs.Math.Nat.{lt-div-mul-add, div-eq_of_lt}
 use Rattle.std.proofs.lemmas.Bool.{cases_lt}
+use Rattle.std.proofs.lemmas.Nat.{pow-add, pow_pos, shr-shr, mod-pow-add}
+use Rattle.std.proofs.lemmas.List.{length-set, get_or_past}
 use Rattle.ranks.specs.Words.{encode, digits, ranks_of, flags_of, word_of, Reads, is_empty}
 
 -- ---- the unit of digit n
@@ -62,26 +63,30 @@ encode_zero [] i e = refl
 encode_zero (d ∷ ds) zero e = omega arith
 encode_zero (d ∷ ds) (suc i) e = encode_zero ds i (omega arith)
 
--- ---- a pass that takes the ranks off one by one
+-- ---- the ranks of a word
 
 pub rests_at_start : (w : ℕ) → w % 2 ^ 60 ≡ encode (ranks_of w)
 rests_at_start w = sym (encode_digits 15 w)
 
-pub record Next (rs : List ℕ) (rest pos : ℕ) : Type 0 where
-  pub inside : pos < 15
-  pub rank : rest % 16 ≡ get_or rs pos 0
-  pub left : rest / 16 ≡ encode (drop (pos + 1) rs)
+-- ---- no rank is left from slot pos on
 
-pub next : (rs : List ℕ) (rest pos : ℕ) → length rs ≡ 15 → ((i : ℕ) → get_or rs i 0 < 16) → rest ≡ encode (drop pos rs) → (rest ≡ 0 → ⊥) → Next rs rest pos
-next rs rest pos n u e nz = ⊎_elim
-    (λ h. let d = e ∙ ap encode (drop_more rs pos 0 (omega arith)) in
-    let v = u pos in
-    record { inside = h; rank = omega arith; left = omega arith })
-    (λ h. absurd (nz (e ∙ ap encode (drop_all pos rs (omega arith)))))
-    (cases_lt pos 15)
+shifted_out : (w i j : ℕ) → w / 2 ^ i ≡ 0 → i ≤ j → w / 2 ^ j ≡ 0
+shifted_out w i j z h =
+    let p : 2 ^ i ≤ 2 ^ j = pow_mono h in
+    let l = lt-div-mul-add {a = w} {b = 2 ^ i} (pow_pos i) in
+    div-eq_of_lt (omega (arith, ap (λ x. x * 2 ^ i) z))
 
-pub next_of : (w rest pos : ℕ) → rest ≡ encode (drop pos (ranks_of w)) → (rest ≡ 0 → ⊥) → Next (ranks_of w) rest pos
-next_of w rest pos = next (ranks_of w) rest pos (length_digits 15 w) (digits_lt 15 w)
+abbrev pub NoneLeft : List ℕ → ℕ → Type 0
+NoneLeft rs pos = (q : ℕ) → pos ≤ q → get_or rs q 0 ≡ 0
+
+pub none_past : (w pos : ℕ) → 15 ≤ pos → NoneLeft (ranks_of w) pos
+none_past w pos n q h = get_or_past (ranks_of w) q 0 (omega (arith, length_digits 15 w))
+
+pub none_above : (w pos : ℕ) → w / 2 ^ (4 * pos) ≡ 0 → NoneLeft (ranks_of w) pos
+none_above w pos z q h = ⊎_elim
+    (λ l. get_or_digits 15 w q l ∙ ap (λ x. x % 16) (shifted_out w (4 * pos) (4 * q) z (omega arith)))
+    (λ l. none_past w q l q (omega arith))
+    (cases_lt q 15)
 
 -- ---- a word made from ranks and a state
 

@@ -2,7 +2,7 @@
 -- A cursor is sixteen numbers: first the rank of the slot last given, 0 if none is; then for each rank its slot, 255 if no live slot has it.
 --     At rs n r x       x is the slot below n of rank r, or 255 where there is none
 --     Indexed rs n ix   the cursor ix has the slots below n by rank, and none was given
---     slots_of xs       the slots of the ranks for which xs stand
+--     slots_of xs       those of xs that are slots, and not 255
 --     ahead ix          the slots that are still to be given, going up; behind ix, going down
 --     given ix          the slot last given
 --     Gives             a step along the slots that are still to be given
@@ -23,7 +23,7 @@ pub record Indexed (rs : List ℕ) (n : ℕ) (ix : List ℕ) : Type 0 where
   pub start : slice_index ix 0 ≡ 0
   pub each : (r : ℕ) → 0 < r → r ≤ leaf_length → At rs n r (slice_index ix r)
 
--- the slots among what stands for some ranks
+-- without the 255 of ranks that no live slot has
 abbrev pub slots_of : List ℕ → List ℕ
 slots_of xs = filter (λ x. not (x == no_slot)) xs
 

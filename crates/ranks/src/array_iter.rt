@@ -2,7 +2,8 @@
 //
 // Ported from `ArrayIter`, `ArrayRevIter` and `Array::build_index` in `tree_index/leaf.rs` of scc 3.8.8 (Apache-2.0), and changed: a
 // cursor keeps no copy of the word, the one that goes down holds one that goes up, and an index is built by a look at all fifteen slots.
-ghost use Rattle.std.specs.Prelude.{◌≡◌, ℕ, ◌+◌, ◌<◌, ◌≤◌, ◌≢◌, reverse, length, None, slice_index, slice_set, IfSome, unwrap_or};
+// Words, slots and ranks are plain numbers, and casts to `u8` lose nothing, as in `dimension`.
+ghost use Rattle.std.specs.Prelude.{◌≡◌, ℕ, ◌+◌, ◌<◌, ◌≤◌, ◌≢◌, reverse, None, slice_index, slice_set, IfSome, unwrap_or};
 ghost use Rattle.std.specs.Iterator.{item_count};
 ghost use Rattle.ranks.specs.Dimensions.{leaf_length};
 ghost use Rattle.ranks.specs.Words.{ranks_of};
@@ -76,7 +77,8 @@ impl ArrayIter {
         self.pos[0] = 0;
     }
 
-    // The least rank that has a slot, from `first` on.
+    // The least rank that has a slot, from `first` on. This and the next are two searches, and none over any iterator of ranks, whose contract
+    // would have to speak of that iterator's run.
     fn rank_from(&self, first: usize) -> Option<usize>
         ensures found { IfSome result (λ rank. (first ≤ rank) × (rank ≤ leaf_length) × (slice_index self.now.pos rank ≢ no_slot)) }
         ensures skipped { (r : ℕ) → first ≤ r → r < unwrap_or result (leaf_length + 1) → slice_index self.now.pos r ≡ no_slot }

@@ -2,6 +2,7 @@
 //
 // Ported from `Array::optimal_boundary` in `tree_index/leaf.rs` of scc 3.8.8 (Apache-2.0), and changed: the pass over the uses is a
 // function of its own.
+// Words and ranks are plain numbers, and casts to `u8` lose nothing, as in `dimension`.
 ghost use Rattle.std.specs.Prelude.{◌≡◌, ◌+◌, ◌*◌, ◌≤◌, count_ones};
 ghost use Rattle.ranks.specs.Dimensions.{leaf_length};
 ghost use Rattle.ranks.specs.Words.{ranks_of};
@@ -38,6 +39,7 @@ pub fn optimal_boundary(metadata: u64, bitmap: u32) -> (u8, u8, bool)
     requires { count_ones bitmap ≤ leaf_length }
     ensures { result ≡ boundary_of (live_count (by_use (ranks_of metadata) 0 (count_ones bitmap))) (rises 0 (by_use (ranks_of metadata) 0 (count_ones bitmap))) }
 {
+    // There is no `From<u32>` for `usize`.
     let (doubled, len) = score(metadata, bitmap.count_ones() as usize);
     if usize::from(len) <= 3 * LEN / 4 {
         // Expect the caller to make the leaf anew.

@@ -2,7 +2,8 @@
 //
 // Ported from `Dimension` in `tree_index/leaf.rs` of scc 3.8.8 (Apache-2.0), and changed: for words of 64 bits alone, over plain
 // numbers in place of atomics; `with_rank`, `raise_above` and `cleared` name steps that are written out there, and `raise_above` is a pass of
-// its own over all fifteen slots.
+// its own.
+// A word is a plain number, as in the record that holds it, so its functions take it as one and are no methods of a type around it.
 ghost use Rattle.std.specs.Prelude.{◌≡◌, ℕ, ◌+◌, ◌*◌, ◌%◌, ◌^◌, ◌<◌, slice_index, slice_set};
 ghost use Rattle.ranks.specs.Dimensions.{leaf_length, slot_pos};
 ghost use Rattle.ranks.specs.Words.{ranks_of, flags_of, Reads, is_empty, is_retired, is_frozen, lifted, cleared_flags};
@@ -12,9 +13,6 @@ pub const LEN: usize = 15;
 
 // The number of bits of a rank.
 pub const BITS: usize = 4;
-
-// The number of values of a rank.
-pub const BASE: u64 = 1 << BITS;
 
 // One more than the greatest word that has ranks alone.
 pub const FLAGS: u64 = 1 << (LEN * BITS);
@@ -38,7 +36,8 @@ pub fn slot_pos(bitmap_pos: usize) -> usize
     }
 }
 
-// The rank of slot `pos`. Slots are plain numbers here: a type for those below `LEN` would be wrapped at each turn of a loop.
+// The rank of slot `pos`. Slots and ranks are plain numbers: types for those below 15 and 16 would be wrapped at each turn of a loop. Casts to
+// `u8` lose nothing, which is proved; a `TryFrom` would bring an error that cannot happen.
 pub fn rank_at(metadata: u64, pos: usize) -> u8
     requires { pos < leaf_length }
     ensures value { result ≡ slice_index (ranks_of metadata) pos }
@@ -70,6 +69,10 @@ pub fn raise_above(metadata: u64, low: u8) -> u64
 {
     let mut raised = metadata;
     for pos in 0..LEN {
+        if metadata >> (BITS * pos) == 0 {
+            // No rank is left.
+            break;
+        }
         if rank_at(metadata, pos) > low {
             raised += field(1, pos);
         }

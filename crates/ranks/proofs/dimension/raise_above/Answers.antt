@@ -1,7 +1,7 @@
-use Rattle.std.proofs.Common.{◌+◌, subst, arith}
-use Rattle.ranks.specs.Words.{ranks_of, flags_of, Reads}
-use Rattle.ranks.proofs.Words.{length_digits}
-use Rattle.ranks.proofs.Lifts.{lift_up, lift_flat, lifting_seen, lifting_all}
+use Rattle.std.proofs.Common.{◌+◌, ℕ, subst, arith}
+use Rattle.ranks.specs.Words.{ranks_of, flags_of, Reads, lifted}
+use Rattle.ranks.proofs.Words.{NoneLeft, none_past, none_above}
+use Rattle.ranks.proofs.Lifts.{lift_up, lift_flat, lifting, lifting_seen, lifting_all}
 use Rattle.ranks.proofs.dimension.raise_above.Goals as goal
 use Rattle.ranks.proofs.dimension.raise_above.Goals.{then-rank_at-low, else-rank_at-low}
 
@@ -17,9 +17,12 @@ loop-pos-preserved c =
       | else-rank_at-low w ↦ lifting_seen _ _ _ _ 0 _ c.loop-pos-test.true c.loop-pos.invariant (omega (arith, w.raised-is)) (lift_flat _ _ (omega (arith, c.rank_at.ensures.value))) (omega (arith, c.requires c.loop-pos.pos))
     ]
 
-pub returns : goal.returns
-returns c =
-    subst
-    (λ ds. Reads c.loop-pos.raised ds (flags_of c.args.metadata))
-    (lifting_all c.args.low (ranks_of c.args.metadata) c.loop-pos.pos (omega (arith, length_digits 15 c.args.metadata)))
-    c.loop-pos.invariant
+-- the pass is at an end where no rank is left
+done : (w low n raised : ℕ) → NoneLeft (ranks_of w) n → Reads raised (lifting low (ranks_of w) n) (flags_of w) → Reads raised (lifted low (ranks_of w)) (flags_of w)
+done w low n raised h = subst (λ ds. Reads raised ds (flags_of w)) (lifting_all low (ranks_of w) n h)
+
+pub returns-after-loop-pos : goal.returns-after-loop-pos
+returns-after-loop-pos c = done _ _ _ _ (none_past c.args.metadata c.loop-pos.pos (omega arith)) c.loop-pos.invariant
+
+pub returns-then-metadata-pos-eq0 : goal.returns-then-metadata-pos-eq0
+returns-then-metadata-pos-eq0 c = done _ _ _ _ (none_above c.args.metadata c.loop-pos.pos c.if-metadata-pos-eq0.true) c.loop-pos.invariant

@@ -1,6 +1,6 @@
 use Rattle.std.proofs.Common.{ap, ◌∙◌, arith}
 use Rattle.leaf.specs.Rules.{state_of}
-use Rattle.leaf.proofs.Files.{held_bound, held_spare}
+use Rattle.leaf.proofs.Files.{held_room, held_bound, held_spare}
 use Rattle.leaf.proofs.array.Array.hold_use.Goals as goal
 
 pub returns : goal.returns
@@ -11,6 +11,6 @@ returns c =
     record {
       same_array = c.new.ensures.same_array;
       held = e;
-      spare = held_spare a h e c.requires;
-      room = λ p. omega (arith, held_bound a h e c.requires p);
+      spare = held_spare a h e;
+      room = λ p. omega (arith, held_bound a h e p, held_room a h e);
     }

@@ -10,9 +10,6 @@ use Rattle.leaf.proofs.Finds.{filed_is}
 use Rattle.leaf.proofs.Wholes.{made_same, whole_out, whole_more, whole_took, not_full}
 use Rattle.leaf.proofs.array.Array.insert_dry.Goals as goal
 
-pub slot_pos-requires : goal.slot_pos-requires
-slot_pos-requires g c = omega (arith, (not_full c.args.self.now c.requires.room).0)
-
 pub word_with-requires : goal.word_with-requires
 word_with-requires g c = record {
   inside = c.seek-spot.ensures.inside;

@@ -1,7 +1,7 @@
 use Rattle.std.proofs.Common.{◌<◌, inl, inr, arith}
 use Rattle.ranks.specs.Words.{ranks_of}
-use Rattle.ranks.proofs.Words.{digits_lt}
-use Rattle.leaf.proofs.Turns.{seen_none, seen_skip, seen_before, seen_after, tame_none, tame_less, tame_greater, none_past, none_above, tame_inside, parted}
+use Rattle.ranks.proofs.Words.{digits_lt, none_past, none_above}
+use Rattle.leaf.proofs.Turns.{seen_none, seen_skip, seen_before, seen_after, tame_none, tame_less, tame_greater, tame_inside, parted}
 use Rattle.leaf.proofs.Sides.{arranged, answered_less, answered_greater}
 use Rattle.leaf.proofs.Wholes.{whole_out}
 use Rattle.leaf.proofs.array.Array.seek.Goals as goal

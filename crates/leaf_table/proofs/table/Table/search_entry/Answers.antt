@@ -1,7 +1,7 @@
 use Rattle.std.proofs.Common.{get_or, sym, ap, ◌∙◌, arith}
 use Rattle.lists.specs.Leaves.{lookup, lives}
 use Rattle.leaf_table.specs.Records.{state_no}
-use Rattle.leaf_table.specs.States.{part, Arranged}
+use Rattle.leaf_table.specs.States.{part, TableSorted}
 use Rattle.leaf_table.proofs.Sounds.{sound_out, state_read}
 use Rattle.leaf_table.proofs.States.{found_leaf, found_state}
 use Rattle.leaf_table.proofs.table.Table.search_entry.Goals as goal
@@ -16,7 +16,7 @@ returns g c =
     let h = c.seat-n.ensures.inside in
     let at = c.seat-n.ensures.value in
     let d = c.index-self-n.result in
-    let entry = λ (k : Arranged O rec slots).
+    let entry = λ (k : TableSorted O rec slots).
     found_leaf O g.met.K.Equivalent.lawful x rec slots k c.target.result c.target.ensures.inside (get_or rec.leaves n d)
     (state_read rec.leaves n d (omega (arith, (sound_out rec.sound).table)) ∙ ap (state_no rec.leaves) at)
     c.part.result.now (c.part.ensures.part ∙ ap (λ m. part m slots) at)
