@@ -31,42 +31,61 @@ impl<K: Spelled> Spelled for Reversed<K> {
     ghost spelled = { λ _ _ h. h };
 }
 
-// A stored key as a query: it has the place of the key that its bytes spell, in the keys' own order.
+// What lends four bytes.
+pub trait Lends {
+    ghost four: { Self → List ℕ };
+
+    fn four(&self) -> &[u8; 4]
+        ensures { result.now ≡ four self.now };
+}
+
+impl<'a> Lends for &'a [u8; 4] {
+    ghost four = { λ b. b.now };
+
+    fn four(&self) -> &[u8; 4] {
+        *self
+    }
+}
+
+// A stored key as a query: it has the place of the key that its bytes spell, in the keys' own order. It is generic in what lends it the bytes,
+// so it may own them.
 #[derive(Clone, Copy)]
-pub struct Stored<'a> {
-    pub bytes: &'a [u8; 4],
+pub struct Stored<B> {
+    pub bytes: B,
 }
 
 // It answers as that key does, so there is nothing to derive.
-impl<K: Comparable<K> + Spelled + Copy> Equivalent<K> for Stored<'_> {
+impl<K: Comparable<K> + Spelled + Copy, B: Lends> Equivalent<K> for Stored<B> {
     ghost order = { K.Equivalent.order };
 
-    ghost spells = { λ q. K.Spelled.of q.bytes.now };
+    ghost spells = { λ q. K.Spelled.of (B.Lends.four q.bytes) };
 
     ghost lawful = { K.Equivalent.lawful };
 
     fn equivalent(&self, key: &K) -> bool {
-        K::from(*self.bytes).equivalent(key)
+        let bytes = self.bytes.four();
+        K::from(*bytes).equivalent(key)
     }
 }
 
-impl<K: Comparable<K> + Spelled + Copy> Comparable<K> for Stored<'_> {
+impl<K: Comparable<K> + Spelled + Copy, B: Lends> Comparable<K> for Stored<B> {
     ghost own = { K.Comparable.own };
 
     ghost agree = { λ _ _. refl };
 
     fn compare(&self, key: &K) -> Ordering {
-        K::from(*self.bytes).compare(key)
+        let bytes = self.bytes.four();
+        K::from(*bytes).compare(key)
     }
 }
 
-impl<'a> TryFrom<&'a [u8]> for Stored<'a> {
+impl<'a> TryFrom<&'a [u8]> for Stored<&'a [u8; 4]> {
     type Error = Refusal;
 
     ghost try_from_gives = { λ b r. IfFour b.now (λ s. s.bytes.now ≡ b.now) r };
 
     // Refuses, before it looks at any byte, what is not four bytes.
-    fn try_from(bytes: &'a [u8]) -> Result<Stored<'a>, Refusal> {
+    fn try_from(bytes: &'a [u8]) -> Result<Stored<&'a [u8; 4]>, Refusal> {
         let bytes: &[u8; 4] = bytes.try_into().map_err(|_| Refusal::StoredLength)?;
         Ok(Stored { bytes })
     }

@@ -1,6 +1,6 @@
 -- The slots seen from a key, as numbers: what `compare` says of a slot, and what it comes to that ranks order keys.
 --     Arranged rs ss   ranks order keys, seen from one key: live ranks differ, and a live slot of a greater rank is after whatever one of a lower rank is not before
-use Rattle.std.proofs.Common.{◌≡◌, ℕ, zero, suc, ◌<◌, ◌≤◌, List, [], ◌∷◌, length, get_or, Some, Less, Greater, sym, refl, ap, ◌∙◌, inl, inr, ⊎_elim, arith}
+use Rattle.std.proofs.Common.{◌≡◌, ℕ, zero, suc, ◌<◌, ◌≤◌, List, [], ◌∷◌, length, get_or, Some, Less, Equal, Greater, sym, refl, ap, ◌∙◌, inl, inr, ⊎_elim, arith}
 use Rattle.std.specs.List.{slice_get}
 use Rattle.std.proofs.lemmas.Bool.{cases_lt}
 use Rattle.std.proofs.lemmas.List.{get_or-map, get_or_past}
@@ -26,6 +26,11 @@ less_side before e = refl
 less_side same e = cc
 less_side after e = cc
 
+equal_side : (w : Way) → Equal ≡ answered w → side_of w ≡ 1
+equal_side before e = cc
+equal_side same e = refl
+equal_side after e = cc
+
 greater_side : (w : Way) → Greater ≡ answered w → side_of w ≡ 0
 greater_side before e = cc
 greater_side same e = cc
@@ -38,6 +43,9 @@ module _ {K V : Type 0} (O P : Order K) (agree : Agree P O) (x : K) (slots : Lis
 
   pub answered_less : Less ≡ answered (stands P x s.key) → 2 ≤ get_or (sides O x slots) p 0
   answered_less e = omega (arith, read ∙ less_side _ e)
+
+  pub answered_equal : Equal ≡ answered (stands P x s.key) → get_or (sides O x slots) p 0 ≡ 1
+  answered_equal e = read ∙ equal_side _ e
 
   pub answered_greater : Greater ≡ answered (stands P x s.key) → get_or (sides O x slots) p 0 ≡ 0
   answered_greater e = read ∙ greater_side _ e

@@ -12,7 +12,7 @@ ghost use Rattle.leaf.specs.Seeks.{Inside, taken, Sought};
 use crate::array::Array;
 use crate::data_block::Slot;
 use keys::equivalent::{Comparable, Equivalent};
-use ranks::dimension::{BITS, raise_above, rank_at, with_rank};
+use ranks::dimension::{BITS, FLAGS, raise_above, rank_at, with_rank};
 use std::cmp::Ordering;
 
 // Where a key that has no live slot lies among the live ranks.
@@ -55,12 +55,13 @@ impl Array {
         let mut max_min_rank = 0;
         let mut min_max_rank = u8::MAX;
         let mut min_max_pos = None;
+        let ranks = self.metadata % FLAGS;
         for (pos, slot) in slots.iter().enumerate() {
-            if self.metadata >> (BITS * pos) == 0 {
+            if ranks >> (BITS * pos) == 0 {
                 // No rank is left.
                 break;
             }
-            let rank = rank_at(self.metadata, pos);
+            let rank = rank_at(ranks, pos);
             if rank < min_max_rank && rank > max_min_rank {
                 match key.compare(&slot.key) {
                     Ordering::Less => {

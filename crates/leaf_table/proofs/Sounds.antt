@@ -1,5 +1,5 @@
 -- What a record keeps: taken out of its ghost field, and kept by each change.
-use Rattle.std.proofs.Common.{◌≡◌, ℕ, zero, suc, ◌<◌, cond, eqb, ◌≢◌, List, [], ◌∷◌, length, get_or, set, replicate, sym, refl, ap, ◌∙◌, subst, ⊎_elim, arith}
+use Rattle.std.proofs.Common.{◌≡◌, ℕ, zero, suc, ◌+◌, ◌-◌, ◌*◌, ◌<◌, Result, OnErr, cond, eqb, ◌≢◌, List, [], ◌∷◌, length, get_or, set, replicate, sym, refl, ap, ◌∙◌, subst, ⊎_elim, arith}
 use mathlib.Core.Logic.{∥∥₁_elim}
 use native.Mathlib.Bridge.{le_prop}
 use base.Stored.{Coded-set, coded_ℕ}
@@ -10,6 +10,11 @@ use Rattle.std.proofs.lemmas.List.FromFn.{get_or-range_with_len}
 use Rattle.std.proofs.lemmas.List.Edits.{length-swap, swapped_from_swap}
 use Rattle.std.proofs.lemmas.Bool.{cases_eq, eq-eqb, ne_eqb, cond-true, cond-false}
 use Rattle.std.proofs.lemmas.Bool.Decides.{nat_tests}
+use Rattle.std.proofs.lemmas.Result.{on_err_weaker}
+use borrow.Rule.Slice.PartMut.{put_mid}
+use Rattle.keys.specs.declared.refusal.Refusal.{Refusal}
+use Rattle.leaf_table.specs.States.{part}
+use Rattle.leaf_table.proofs.Parts.{put_back}
 use Rattle.leaf.specs.Calls.{fresh}
 use Rattle.leaf.specs.Rules.{state_of}
 use Rattle.leaf.specs.declared.array.Array.{Array}
@@ -117,6 +122,13 @@ same_array p q w w' = λ i. record { metadata = p i; bitmap = q i; whole = is_pr
 -- an array has no more to it than its state
 pub array_of : (a b : Array) → state_of a ≡ state_of b → a ≡ b
 array_of a b e = let w = words_of a b e in same_array w.0 w.1 a.whole b.whole
+
+-- what was lent on came back as it was
+pub kept_in : {A : Type 0} (n : ℕ) (a a' : Array) (xs ys : List A) → (state_of a' ≡ state_of a) × (ys ≡ part n xs) → (a' ≡ a) × (put_mid (15 * n) ((15 * n + 15) - 15 * n) xs ys ≡ xs)
+kept_in n a a' xs ys u = (array_of a' a u.0, put_back n xs ys u.1)
+
+pub unchanged_in : {A T : Type 0} (r : Result T Refusal) (n : ℕ) (a a' : Array) (xs ys : List A) → OnErr r ((state_of a' ≡ state_of a) × (ys ≡ part n xs)) → OnErr r ((a' ≡ a) × (put_mid (15 * n) ((15 * n + 15) - 15 * n) xs ys ≡ xs))
+unchanged_in r n a a' xs ys = on_err_weaker r (kept_in n a a' xs ys)
 
 -- leaf n is a
 abbrev pub put_leaf : (rec : Table) (n : ℕ) (a : Array) → ∥ Sound rec.children rec.seats (set rec.leaves n a) ∥₁ → Table

@@ -7,7 +7,7 @@ ghost use Rattle.ranks.specs.Dimensions.{leaf_length};
 ghost use Rattle.lists.specs.Leaves.{lives, lookup};
 ghost use Rattle.lists.specs.Nodes.{fresh, told, held, find};
 ghost use Rattle.lists.specs.Rows as rows;
-ghost use Rattle.leaf.specs.Calls.{fresh as blank, Filled, Struck, Inserted, FilingRefusal, StrikeRefusal};
+ghost use Rattle.leaf.specs.Calls.{fresh as blank, Filled, Struck, Inserted, Removed, FilingRefusal, StrikeRefusal};
 ghost use Rattle.leaf.specs.Rules.{state_of};
 ghost use Rattle.leaf.specs.Slots.{sides, Sorted};
 ghost use Rattle.leaf.specs.declared.data_block.Slot as slot;
@@ -48,6 +48,7 @@ pub fn part<K, V>(slots: &[Slot<K, V>], n: usize) -> &[Slot<K, V>]
 }
 
 // Files `entry` in the array of leaf n.
+#[tactic(auto, using(crate::proofs::Parts::part_other, crate::proofs::Sounds::kept_in, crate::proofs::Sounds::unchanged_in))]
 pub fn insert_in<K: Comparable<K> + Copy, V: Copy>(
     array: &mut Array,
     slots: &mut [Slot<K, V>],
@@ -64,6 +65,24 @@ pub fn insert_in<K: Comparable<K> + Copy, V: Copy>(
     ensures inserted { Sorted K.Equivalent.order (state_of array.old).ranks (part n slots.old) → Inserted K.Equivalent.order array.old (part n slots.old) entry upsert array.new (part n slots.new) result }
 {
     array.insert(&mut slots[LEN * n..LEN * n + LEN], entry, upsert)
+}
+
+// Strikes the place of `key` in the array of leaf n, if the condition says yes to its value.
+fn remove_in<K: Equivalent<K>, V, Q: Comparable<K>, C: Condition<V>>(
+    array: &mut Array,
+    slots: &[Slot<K, V>],
+    n: usize,
+    key: &Q,
+    condition: &mut C,
+) -> Result<RemoveOutcome, Refusal>
+    requires size { length slots.now ≡ node_length }
+    requires inside { n < 17 }
+    ensures refused { IfErr result StrikeRefusal }
+    ensures unchanged { OnErr result (state_of array.new ≡ state_of array.old) }
+    ensures struck { IfOk result (Struck (state_of array.old) (state_of array.new)) }
+    ensures removed { Sorted K.Equivalent.order (state_of array.old).ranks (part n slots.now) → Removed K.Equivalent.order C.Condition.verdict C.Condition.after array.old condition.old (Q.Equivalent.spells key.now) (part n slots.now) array.new condition.new result }
+{
+    array.remove_if(part(slots, n), key, condition)
 }
 
 impl Table {
@@ -166,6 +185,6 @@ impl Table {
         let n = self.seat(t);
         // borrowed as in `insert_at`
         let leaves = &mut self.leaves;
-        leaves[n].remove_if(part(slots, n), key, condition)
+        remove_in(&mut leaves[n], slots, n, key, condition)
     }
 }

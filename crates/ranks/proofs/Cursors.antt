@@ -1,12 +1,12 @@
 -- A cursor over the live slots: its steps, and that its slots come in order of rank.
-use Rattle.std.proofs.Common.{◌≡◌, ℕ, zero, suc, ◌+◌, ◌-◌, ◌<◌, ◌≤◌, cond, not, eqb, List, [], ◌∷◌, ◌++◌, reverse, length, length-take-le, get_or, take, drop, set, Some, None, Option, sym, refl, ap, ◌∙◌, subst, ⊎_elim, arith}
+use Rattle.std.proofs.Common.{◌≡◌, ℕ, zero, suc, ◌+◌, ◌-◌, ◌<◌, ◌≤◌, cond, not, eqb, List, [], ◌∷◌, ◌++◌, reverse, length, length-take-le, get_or, take, drop, set, Some, None, Option, sym, refl, ap, ◌∙◌, subst, inl, inr, ⊎_elim, arith}
 use Rattle.std.proofs.lemmas.List.{drop_all, drop_more, drop-drop, get_or-drop, take-take, get_or-take, get_or_past, take_all, reverse-append, reverse-reverse}
 use Rattle.std.proofs.lemmas.Bool.{cases_eq, cases_lt}
 use Rattle.std.proofs.lemmas.List.Elements.{filter_more}
 use Rattle.std.proofs.lemmas.Bool.Decides.{nat_tests}
 use Rattle.ranks.specs.Words.{ranks_of}
 use Rattle.ranks.specs.Indexes.{no_slot, Indexed, slots_of, ahead, behind, Gives, Rising, InOrder, Apart}
-use Rattle.ranks.proofs.Words.{length_digits, digits_lt}
+use Rattle.ranks.proofs.Words.{NoneLeft, length_digits, digits_lt}
 
 -- ---- ranks that have no slot are passed over
 
@@ -105,6 +105,17 @@ has (x ∷ xs) zero l n = rw (kept x xs n) (0, omega arith, refl)
 has (x ∷ xs) (suc i) l n =
     let later = has xs i (omega arith) n in
     ⊎_elim (λ e. rw (dropped x xs e) later) (λ m. rw (kept x xs m) (suc later.0, omega (arith, later.1), later.2)) (cases_eq x no_slot)
+
+-- no rank is left
+pub indexed_all : (rs : List ℕ) (n : ℕ) (ix : List ℕ) → n ≤ 15 → NoneLeft rs n → Indexed rs n ix → Indexed rs 15 ix
+indexed_all rs n ix l left s = record {
+  long = s.long;
+  start = s.start;
+  each = λ r p h. ⊎_elim
+      (λ none. inl (none.0, λ q m e. ⊎_elim (λ b. none.1 q b e) (λ b. omega (arith, left q b)) (cases_lt q n)))
+      (λ some. inr (omega (arith, some.0), some.1))
+      (s.each r p h);
+}
 
 pub index_order : (w : ℕ) (ix : List ℕ) → Indexed (ranks_of w) 15 ix → Apart (ranks_of w) → InOrder (ranks_of w) (ahead ix)
 index_order w [] s apart = absurd (omega (arith, s.long))

@@ -145,5 +145,19 @@ pub empty_encode : (rs : List ℕ) → eqb (encode rs) 0 ≡ is_empty rs
 empty_encode [] = refl
 empty_encode (r ∷ rs) = let ih = empty_encode rs in grind (arith, nat_tests)
 
-pub empty_word : (w : ℕ) (rs : List ℕ) (f : ℕ) → Reads w rs f → eqb w 0 ≡ (is_empty rs && eqb f 0)
-empty_word w rs f t = let e = empty_encode rs in let n = word_split w in let r = ap₂ word_of t.ranks t.flags in grind (arith, nat_tests)
+pub empty_word : (rs : List ℕ) (f : ℕ) → eqb (word_of rs f) 0 ≡ (is_empty rs && eqb f 0)
+empty_word rs f = let e = empty_encode rs in grind (arith, nat_tests)
+
+pub empty_read : (w : ℕ) (rs : List ℕ) (f : ℕ) → Reads w rs f → eqb w 0 ≡ (is_empty rs && eqb f 0)
+empty_read w rs f t = ap (λ x. eqb x 0) (sym (word_of_lem w rs f t)) ∙ empty_word rs f
+
+-- ---- the ranks of a word are those of the word without its flags
+
+pub ranks_alone : (w : ℕ) → ranks_of (w % 2 ^ 60) ≡ ranks_of w
+ranks_alone w = (decode (w % 2 ^ 60) (ranks_of w) 0 (length_digits 15 w) (digits_lt 15 w) (omega (arith, encode_digits 15 w))).ranks
+
+pub rank_alone : (w p : ℕ) → get_or (ranks_of (w % 2 ^ 60)) p 0 ≡ get_or (ranks_of w) p 0
+rank_alone w p = ap (λ rs. get_or rs p 0) (ranks_alone w)
+
+pub none_alone : (w pos : ℕ) → w % 2 ^ 60 / 2 ^ (4 * pos) ≡ 0 → NoneLeft (ranks_of w) pos
+none_alone w pos z = subst (λ rs. NoneLeft rs pos) (ranks_alone w) (none_above (w % 2 ^ 60) pos z)

@@ -1,7 +1,7 @@
 // A cursor over the live slots of a leaf array, in order of rank.
 //
 // Ported from `ArrayIter`, `ArrayRevIter` and `Array::build_index` in `tree_index/leaf.rs` of scc 3.8.8 (Apache-2.0), and changed: a
-// cursor keeps no copy of the word, the one that goes down holds one that goes up, and an index is built by a look at all fifteen slots.
+// cursor keeps no copy of the word, and the one that goes down holds one that goes up.
 // Words, slots and ranks are plain numbers, and casts to `u8` lose nothing, as in `dimension`.
 ghost use Rattle.std.specs.Prelude.{◌≡◌, ℕ, ◌+◌, ◌<◌, ◌≤◌, ◌≢◌, reverse, None, slice_index, slice_set, IfSome, unwrap_or};
 ghost use Rattle.std.specs.Iterator.{item_count};
@@ -9,7 +9,7 @@ ghost use Rattle.ranks.specs.Dimensions.{leaf_length};
 ghost use Rattle.ranks.specs.Words.{ranks_of};
 ghost use Rattle.ranks.specs.Indexes.{no_slot, Indexed, ahead, behind, given, Gives, InOrder, Apart};
 
-use crate::dimension::{LEN, rank_at};
+use crate::dimension::{BITS, FLAGS, LEN, rank_at};
 
 // In the place of a slot, for a rank that no live slot has.
 const NO_SLOT: u8 = u8::MAX;
@@ -34,8 +34,13 @@ fn build_index(metadata: u64) -> [u8; LEN + 1]
 {
     let mut index = [NO_SLOT; LEN + 1];
     index[0] = 0;
+    let ranks = metadata % FLAGS;
     for pos in 0..LEN {
-        let rank = usize::from(rank_at(metadata, pos));
+        if ranks >> (BITS * pos) == 0 {
+            // No rank is left.
+            break;
+        }
+        let rank = usize::from(rank_at(ranks, pos));
         if rank != 0 {
             index[rank] = pos as u8;
         }

@@ -14,6 +14,9 @@ pub const LEN: usize = 15;
 // The number of bits of a rank.
 pub const BITS: usize = 4;
 
+// The number of values of a rank.
+pub const BASE: u64 = 1 << BITS;
+
 // One more than the greatest word that has ranks alone.
 pub const FLAGS: u64 = 1 << (LEN * BITS);
 
@@ -43,7 +46,7 @@ pub fn rank_at(metadata: u64, pos: usize) -> u8
     ensures value { result ≡ slice_index (ranks_of metadata) pos }
     ensures bound { result < 16 }
 {
-    (metadata >> (BITS * pos) & 15) as u8
+    (metadata >> (BITS * pos) & (BASE - 1)) as u8
 }
 
 // `rank` as it stands in a word at slot `pos`.
@@ -68,12 +71,13 @@ pub fn raise_above(metadata: u64, low: u8) -> u64
     ensures { Reads result (lifted low (ranks_of metadata)) (flags_of metadata) }
 {
     let mut raised = metadata;
+    let ranks = metadata % FLAGS;
     for pos in 0..LEN {
-        if metadata >> (BITS * pos) == 0 {
+        if ranks >> (BITS * pos) == 0 {
             // No rank is left.
             break;
         }
-        if rank_at(metadata, pos) > low {
+        if rank_at(ranks, pos) > low {
             raised += field(1, pos);
         }
     }

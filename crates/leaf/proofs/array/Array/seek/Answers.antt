@@ -1,8 +1,8 @@
-use Rattle.std.proofs.Common.{◌<◌, inl, inr, arith}
+use Rattle.std.proofs.Common.{◌<◌, ◌∙◌, inl, inr, arith}
 use Rattle.ranks.specs.Words.{ranks_of}
-use Rattle.ranks.proofs.Words.{digits_lt, none_past, none_above}
+use Rattle.ranks.proofs.Words.{digits_lt, none_past, none_alone, rank_alone}
 use Rattle.leaf.proofs.Turns.{seen_none, seen_skip, seen_before, seen_after, tame_none, tame_less, tame_greater, tame_inside, parted}
-use Rattle.leaf.proofs.Sides.{arranged, answered_less, answered_greater}
+use Rattle.leaf.proofs.Sides.{arranged, answered_less, answered_equal, answered_greater}
 use Rattle.leaf.proofs.Wholes.{whole_out}
 use Rattle.leaf.proofs.array.Array.seek.Goals as goal
 use Rattle.leaf.proofs.array.Array.seek.Goals.{then-rank-min_max_rank+then-rank-max_min_rank+in-Less, then-rank-min_max_rank+then-rank-max_min_rank+in-Greater, else-rank-min_max_rank, else-rank-min_max_rank-via-then-rank-min_max_rank+else-rank-max_min_rank, else-rank-min_max_rank-via-else-rank-min_max_rank}
@@ -20,7 +20,7 @@ loop-pos-preserved g c =
     let pos = c.loop-pos.pos in
     let t = c.loop-pos.invariant.tame in
     let h : pos < 15 = omega arith in
-    let r = c.rank_at-rank.ensures.value in
+    let r = c.rank_at-rank.ensures.value ∙ rank_alone c.args.self.now.metadata pos in
     record {
       tame = elim c.if-rank-min_max_rank.branch [
         | then-rank-min_max_rank+then-rank-max_min_rank+in-Less w ↦ rw (w.max_min_rank-is, w.min_max_rank-is, w.min_max_pos-is) (tame_less t h r (omega arith))
@@ -45,14 +45,25 @@ loop-pos-preserved g c =
           ];
     }
 
+pub returns-in-Equal : goal.returns-in-Equal
+returns-in-Equal g c =
+    let O = g.K.Equivalent.order in
+    let P = g.Q.Equivalent.order in
+    let pos = c.loop-pos.pos in
+    let h : pos < 15 = omega arith in
+    record {
+      inside = (h, omega (arith, c.rank_at-rank.ensures.value, rank_alone c.args.self.now.metadata pos));
+      sought = λ _. answered_equal O P g.met.Q.Comparable.agree (g.Q.Equivalent.spells c.args.key.now) c.args.slots.now c.requires pos h c.index-slots-pos.result c.index-slots-pos.is c.in-Equal.ensures;
+    }
+
 pub returns-after-loop-pos : goal.returns-after-loop-pos
 returns-after-loop-pos g c = record {
   inside = tame_inside _ c.loop-pos.invariant.tame;
   sought = λ so. parted _ (none_past c.args.self.now.metadata _ (omega arith)) (digits_lt 15 c.args.self.now.metadata) c.loop-pos.invariant.tame (c.loop-pos.invariant.seen so);
 }
 
-pub returns-then-self-pos-eq0 : goal.returns-then-self-pos-eq0
-returns-then-self-pos-eq0 g c = record {
+pub returns-then-ranks-pos-eq0 : goal.returns-then-ranks-pos-eq0
+returns-then-ranks-pos-eq0 g c = record {
   inside = tame_inside _ c.loop-pos.invariant.tame;
-  sought = λ so. parted _ (none_above c.args.self.now.metadata _ c.if-self-pos-eq0.true) (digits_lt 15 c.args.self.now.metadata) c.loop-pos.invariant.tame (c.loop-pos.invariant.seen so);
+  sought = λ so. parted _ (none_alone c.args.self.now.metadata _ c.if-ranks-pos-eq0.true) (digits_lt 15 c.args.self.now.metadata) c.loop-pos.invariant.tame (c.loop-pos.invariant.seen so);
 }
