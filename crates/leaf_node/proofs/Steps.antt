@@ -1,6 +1,6 @@
 -- Calls of a node as steps of the leaf lists.
-use Rattle.std.proofs.Common.{Result, Ok, Err, inl, inr, ◌≡◌, ℕ, ◌≤◌, Bool, true, false, List, map, length, get_or, sym, refl, ap, ◌∙◌, subst, ap₂, ⊎_elim, arith}
-use mathlib.Core.HLevel.{is_prop→PathP}
+use Rattle.std.specs.Result.{is_ok}
+use Rattle.std.proofs.Common.{Result, Ok, Err, OnErr, inl, inr, ◌≡◌, ℕ, ◌≤◌, Bool, true, false, List, map, length, get_or, sym, refl, ap, ◌∙◌, subst, ap₂, ⊎_elim, arith}
 use mathlib.Core.Option.{some, none}
 use Rattle.std.proofs.lemmas.Bool.{both_ways, cases_eq, cond-true}
 use Rattle.keys.specs.Orders.{Order, Ordered}
@@ -19,7 +19,7 @@ use Rattle.leaf.proofs.Wholes.{whole_out}
 use Rattle.leaf_lists.specs.Stands.{leaf_in}
 use Rattle.ranked_leaves.specs.Ranked.{plain}
 use Rattle.ranked_leaves.proofs.Ranked.{plain_in, plain_taken}
-use Rattle.leaf_table.specs.Records.{state_no, Sound}
+use Rattle.leaf_table.specs.Records.{state_no}
 use Rattle.leaf_table.specs.States.{part, pick, row_on, state_at, slots_at, leaf_at, ranked_at, row_of, node_of, TableSorted, Aimed}
 use Rattle.leaf_table.specs.Changes.{roomy, OnlyLeaf, Elsewhere, FiledAt}
 use Rattle.leaf_table.specs.Filings.{call}
@@ -31,9 +31,10 @@ use Rattle.leaf_table.proofs.States.{node_stands}
 use Rattle.leaf_node.specs.States.{Kept}
 use Rattle.leaf_node.specs.Steps.{Appended}
 
--- a table has no more to it than its parts
-pub table_of : (a b : Table) → a.children ≡ b.children → a.seats ≡ b.seats → a.leaves ≡ b.leaves → a.gone ≡ b.gone → a ≡ b
-table_of a b p q r s = λ i. record { children = p i; seats = q i; leaves = r i; gone = s i; sound = is_prop→PathP (λ j. ∥ Sound (p j) (q j) (r j) ∥₁) (λ j. squash₁) a.sound b.sound i }
+-- what holds of a refusal may use that it is one
+pub on_err_when : {T E P Q : Type 0} (r : Result T E) → (is_ok r ≡ false → P → Q) → OnErr r P → OnErr r Q
+on_err_when (Ok x) f w = w
+on_err_when (Err x) f w = f refl w
 
 -- ---- the leaf lists alone: what a call comes to
 

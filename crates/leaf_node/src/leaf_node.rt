@@ -60,6 +60,7 @@ impl LeafNode {
         requires { length slots.old ≡ node_length }
         ensures refused { IfErr result FilingRefusal }
         ensures unchanged { Unchanged self.old.table slots.old self.new.table slots.new result }
+        ensures gone { self.new.table.gone ≡ self.old.table.gone }
         ensures appended { Kept K.Equivalent.order self.old.table slots.old → Appended K.Equivalent.order self.old.table slots.old (entry_of entry) upsert self.new.table slots.new result }
     {
         if self.table.gone {
@@ -79,6 +80,7 @@ impl LeafNode {
         requires { length slots.now ≡ node_length }
         ensures refused { IfErr result StrikeRefusal }
         ensures unchanged { OnErr result (self.new ≡ self.old) }
+        ensures gone { self.new.table.gone ≡ self.old.table.gone }
         ensures struck { Kept K.Equivalent.order self.old.table slots.now → StruckAt K.Equivalent.order (C.Condition.verdict condition.old) self.old.table slots.now (K.Equivalent.order.place (Q.Equivalent.spells key.now)) self.new.table result }
         ensures asked { Kept K.Equivalent.order self.old.table slots.now → condition.new ≡ asked C.Condition.after condition.old (held_in K.Equivalent.order (K.Equivalent.order.place (Q.Equivalent.spells key.now)) (node_of self.old.table slots.now)) }
         ensures kept { Kept K.Equivalent.order self.old.table slots.now → Kept K.Equivalent.order self.new.table slots.now }

@@ -130,12 +130,14 @@ kept_in n a a' xs ys u = (array_of a' a u.0, put_back n xs ys u.1)
 pub unchanged_in : {A T : Type 0} (r : Result T Refusal) (n : ℕ) (a a' : Array) (xs ys : List A) → OnErr r ((state_of a' ≡ state_of a) × (ys ≡ part n xs)) → OnErr r ((a' ≡ a) × (put_mid (15 * n) ((15 * n + 15) - 15 * n) xs ys ≡ xs))
 unchanged_in r n a a' xs ys = on_err_weaker r (kept_in n a a' xs ys)
 
+-- a table has no more to it than its parts
+pub table_of : (a b : Table) → a.children ≡ b.children → a.seats ≡ b.seats → a.leaves ≡ b.leaves → a.gone ≡ b.gone → a ≡ b
+table_of a b p q r s = λ i. record { children = p i; seats = q i; leaves = r i; gone = s i; sound = is_prop→PathP (λ j. ∥ Sound (p j) (q j) (r j) ∥₁) (λ j. squash₁) a.sound b.sound i }
+
 -- leaf n is a
 abbrev pub put_leaf : (rec : Table) (n : ℕ) (a : Array) → ∥ Sound rec.children rec.seats (set rec.leaves n a) ∥₁ → Table
 put_leaf rec n a s = record { children = rec.children; seats = rec.seats; leaves = set rec.leaves n a; gone = rec.gone; sound = s }
 
 -- and it was a before
 pub leaf_back : (rec : Table) (n : ℕ) (d a : Array) (s : ∥ Sound rec.children rec.seats (set rec.leaves n a) ∥₁) → a ≡ get_or rec.leaves n d → put_leaf rec n a s ≡ rec
-leaf_back rec n d a s e =
-    let p = ap (set rec.leaves n) e ∙ set-get_or rec.leaves n d in
-    λ i. record { children = rec.children; seats = rec.seats; leaves = p i; gone = rec.gone; sound = is_prop→PathP (λ j. ∥ Sound rec.children rec.seats (p j) ∥₁) (λ j. squash₁) s rec.sound i }
+leaf_back rec n d a s e = table_of (put_leaf rec n a s) rec refl refl (ap (set rec.leaves n) e ∙ set-get_or rec.leaves n d) refl
