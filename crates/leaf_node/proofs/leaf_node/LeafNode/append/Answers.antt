@@ -5,6 +5,7 @@ use Rattle.leaf_node.specs.Steps.{Appended}
 use Rattle.leaf_node.proofs.Steps.{on_err_when, table_sorted, appended}
 use Rattle.leaf_node.proofs.leaf_node.LeafNode.append.Goals as goal
 
+-- The table that is left is compared part by part: a body that sets one of them after the step is judged by that part.
 pub returns : goal.returns
 returns g c =
     let O = g.K.Equivalent.order in

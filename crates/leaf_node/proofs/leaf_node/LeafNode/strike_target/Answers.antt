@@ -7,6 +7,7 @@ use Rattle.leaf_node.proofs.Steps.{on_err_when, table_sorted}
 use Rattle.leaf_node.proofs.Strikes.{asked_of, struck, kept_struck}
 use Rattle.leaf_node.proofs.leaf_node.LeafNode.strike_target.Goals as goal
 
+-- The table that is left is compared part by part: a body that sets one of them after the step is judged by that part.
 pub returns : goal.returns
 returns g c =
     let O = g.K.Equivalent.order in
